@@ -7,7 +7,8 @@ puts it into c/out.
     content = validators.fields("tls_codec_opaque_v", extensions)["content"]
     for extension in validators.elements("mls_extension", content): ...
 
-A number's field is its bytes: `int.from_bytes(fields["epoch"], "big")`.
+A number's field is its bytes: `int.from_bytes(fields["epoch"], "big")`. Bytes that are rejected raise `Rejected`, a `ValueError`. A name that
+isn't in the headers raises a `LookupError`, which lists those that are.
 
 docs/CALLERS.md says what is proved and what is trusted.
 """
@@ -15,10 +16,10 @@ from __future__ import annotations
 
 import ctypes
 import pathlib
-from collections.abc import Iterator
+from collections.abc import Callable, Iterator
 from typing import Union
 
-from tls_codec_exports import FIELDS, MARK, STATUSES, VERSION, MlsWireFormat
+from tls_codec_exports import CALLS, FIELDS, MARK, STATUSES, VERSION, MlsWireFormat
 
 __version__ = VERSION
 Buffer = Union[bytes, bytearray, memoryview]
@@ -45,7 +46,8 @@ class Span(ctypes.Structure):
 
 
 class Rejected(ValueError):
-    """Why bytes are rejected: the error's name, where the rejected field begins, and the value that isn't known."""
+    """Why bytes are rejected: `error`, a name of STATUSES in tls_codec_exports, and `status`, its number; `at`, where the rejected field
+    begins; and `detail`, the value of an UnknownValue, or 0."""
 
     def __init__(self, status: int, at: int, detail: int = 0) -> None:
         self.status, self.at, self.detail = status, at, detail
@@ -64,15 +66,29 @@ class Validators:
             raise ImportError(f"the archives are of {found!r}, and not of {MARK!r}: {mark}")
         self.library = ctypes.CDLL(path)
 
+    def named(self, subject: str, ending: str = "") -> Callable[..., Outcome]:
+        """The function of this name and its ending. A LookupError lists the names that have this ending."""
+        if subject + ending not in CALLS:
+            known = sorted(it[: len(it) - len(ending)] for it in CALLS if it.endswith(ending))
+            raise LookupError(f"there is no {subject!r}, but {', '.join(known)}")
+        try:
+            return self.library[subject + ending]
+        except AttributeError:
+            raise LookupError(f"this shared object has no {subject + ending!r}") from None
+
     def outcome(self, name: str, data: Buffer, *filled: object) -> Outcome:
         """What a function says of the bytes, which is named as in the headers. It is given what it is to fill."""
-        call, data = self.library[name], plain(data)
+        return self.outcome_of(self.named(name), data, *filled)
+
+    def outcome_of(self, call: Callable[..., Outcome], data: Buffer, *filled: object) -> Outcome:
+        """The same of a function that `named` found."""
+        data = plain(data)
         call.restype, call.argtypes = Outcome, [ctypes.c_char_p, ctypes.c_size_t, *[ctypes.c_void_p] * len(filled)]
         return call(data, len(data), *map(ctypes.byref, filled))
 
-    def accepted(self, name: str, data: Buffer, *filled: object) -> Outcome:
+    def accepted(self, call: Callable[..., Outcome], data: Buffer, *filled: object) -> Outcome:
         """The same of bytes that are accepted."""
-        outcome = self.outcome(name, data, *filled)
+        outcome = self.outcome_of(call, data, *filled)
         if outcome.status:
             raise Rejected(outcome.status, outcome.at, outcome.detail)
         return outcome
@@ -80,7 +96,7 @@ class Validators:
     def split(self, message: str, data: Buffer) -> tuple[bytes, bytes]:
         """The message that the bytes begin with, and the rest of them. The message is named as in the headers, without `_validate_prefix`."""
         data = plain(data)
-        outcome = self.accepted(f"{message}_validate_prefix", data)
+        outcome = self.accepted(self.named(message, "_validate_prefix"), data)
         return data[: outcome.taken], data[outcome.taken :]
 
     def whole(self, message: str, data: Buffer) -> bytes:
@@ -93,19 +109,21 @@ class Validators:
     def fields(self, message: str, data: Buffer) -> dict[str, bytes]:
         """The fields of the message that the bytes begin with, by the names that its struct has in the headers, in that order.
 
-        Those in WITH_LENGTH of tls_codec_exports have a length in them, such as a list's.
+        WITH_LENGTH of tls_codec_exports has those whose bytes begin with a length, such as a list's.
         """
-        names, data = FIELDS[message], plain(data)
+        call, data = self.named(message, "_locate"), plain(data)
+        names = FIELDS[message]
         spans = (Span * len(names))()
-        self.accepted(f"{message}_locate", data, spans)
+        self.accepted(call, data, spans)
         return {name: span.of(data) for name, span in zip(names, spans)}
 
     def elements(self, element: str, content: Buffer) -> Iterator[bytes]:
         """The elements of a list, from the bytes after its length: named as in the headers, without `_next`."""
-        content = plain(content)
+        call, content = self.named(element, "_next"), plain(content)
         left, found = Span(0, len(content)), Span()
         while left.size:
-            outcome, at = self.outcome(f"{element}_next", content, left, found), left.offset
+            at = left.offset
+            outcome = self.outcome_of(call, content, left, found)
             if outcome.status:
                 raise Rejected(outcome.status, at + outcome.at, outcome.detail)
             yield found.of(content)
@@ -113,7 +131,7 @@ class Validators:
     def message_wire_format(self, data: Buffer) -> MlsWireFormat:
         """The wire format of the MLSMessage that the bytes begin with. Other numbers have names in tls_codec_exports, as MlsContentType."""
         wire_format = ctypes.c_uint16()
-        self.accepted("mls_message_wire_format", data, wire_format)
+        self.accepted(self.named("mls_message_wire_format"), data, wire_format)
         return MlsWireFormat(wire_format.value)
 
     def framed_content_tbs(self, wire_format: int, content: Buffer, context: Buffer = b"") -> bytes:

@@ -150,7 +150,7 @@ def located_fields() -> dict[str, list[str]]:
 
 
 def fields_with_length() -> dict[str, list[str]]:
-    """Which of these fields have a length in them, in some case or in each, by NAME."""
+    """Which of these fields begin with a length, in some case or in each, by NAME."""
     found = {}
     for it in located():
         fields = structs()[taken_by(it)].fields if taken_by(it) != "Span" else []
@@ -159,17 +159,23 @@ def fields_with_length() -> dict[str, list[str]]:
     return found
 
 
+def called_by_outcome() -> list[str]:
+    """The calls that `Validators.outcome` of Python makes: all that are given bytes, and then what they fill."""
+    return [it.name for crate in libraries() for it in exports_of(crate) if it.call != "_encode"]
+
+
 def exports_python() -> str:
     """The names that the module of python/ has from here."""
     lines = [f'"""{WRITTEN}. Don\'t edit."""', "", "import enum", "", "# The version, by CHANGELOG.md.", f'VERSION = "{version()}"', ""]
     lines += ["# What archives of this version and these headers have beside them.", f'MARK = "{mark()}"', ""]
     lines += ["# The names of the statuses, by their numbers.", "STATUSES = ["]
     lines += [f'    "{name}",' for name in ("Accepted", *[name for name, _, _ in numbers()])]
+    lines += ["]", "", "# The functions that are given bytes, and then what they fill.", "CALLS = ["]
+    lines += [f'    "{it}",' for it in called_by_outcome()]
     lines += ["]", "", "# What `NAME_locate` fills, in this order, by NAME.", "FIELDS = {"]
     lines += [f'    "{message}": {json.dumps(names)},' for message, names in located_fields().items()]
-    lines += ["}", "", "# Which of these have a length in them, in some case or in each."]
-    lines[-1] += " The others are contents without their length, or have none."
-    lines += ["WITH_LENGTH = {", *[f'    "{message}": {json.dumps(names)},' for message, names in fields_with_length().items()]]
+    lines += ["}", "", "# Fields whose bytes begin, in some case or in each, with a length that the header names. Other fields that are a struct,"]
+    lines += ["# an option or a case have the lengths of their parts in them, and aren't listed.", "WITH_LENGTH = {", *[f'    "{message}": {json.dumps(names)},' for message, names in fields_with_length().items()]]
     return "\n".join([*lines, "}", *enums_in_python(), ""])
 
 

@@ -115,6 +115,22 @@ static int are_bounds_kept(void) {
   return is_well;
 }
 
+/* Of each list: what is left has no bytes, or none that are in `bytes`. */
+static int are_ends_kept(void) {
+  static const uint8_t bytes[] = {0, 10, 0, 0};
+  static const tls_codec_span ends[] = {{0, 0}, {2, 0}, {4, 0}, {4, 1}, {5, 3}, {5, SIZE_MAX}, {SIZE_MAX, SIZE_MAX}};
+  int is_well = 1;
+  for (size_t i = 0; i < sizeof lists / sizeof *lists; i++)
+    for (size_t j = 0; j < sizeof ends / sizeof *ends; j++) {
+      tls_codec_span left = ends[j], element = {7, 8};
+      tls_codec_outcome outcome = lists[i].next(bytes, sizeof bytes, &left, &element);
+      int is_end = strcmp(text_of(outcome), "6 0 0 0") == 0 && is_place(left, ends[j].offset, ends[j].size) && is_place(element, 7, 8);
+      if (!is_end) printf("%s of no bytes: %s\n", lists[i].name, text_of(outcome));
+      is_well &= is_end;
+    }
+  return is_well;
+}
+
 static int is_as_expected(const char *name, const char *digits, const char *wanted, const char *filled) {
   struct answer answer = {{0, 0, 0, 0}, ""};
   size_t length;
@@ -131,7 +147,7 @@ int main(int count, char **words) {
   static char line[1 << 17];
   FILE *file = count > 1 ? fopen(words[1], "r") : NULL;
   if (!file) return 2;
-  int rows = 0, failed = !are_bounds_kept();
+  int rows = 0, failed = !are_bounds_kept() + !are_ends_kept();
   while (fgets(line, sizeof line, file)) {
     char *name = strtok(line, "\t"), *digits = strtok(NULL, "\t"), *wanted = strtok(NULL, "\t"), *filled = strtok(NULL, "\n");
     if (!filled) return 2;

@@ -2,7 +2,9 @@
 from __future__ import annotations
 
 import pathlib
+import re
 import sys
+from collections.abc import Callable
 
 sys.dont_write_bytecode = True
 sys.path.insert(0, str(pathlib.Path(__file__).resolve().parent.parent))
@@ -103,12 +105,35 @@ def are_fields_named(validators: Validators) -> bool:
     return (alert, opaque) == ({"level": b"\1", "description": b"\0"}, {"content": b"\7\x08"})
 
 
+def lookup(call: Callable[[], object]) -> str:
+    """What the LookupError of a call says; empty if there is none."""
+    try:
+        call()
+    except LookupError as error:
+        return str(error)
+    return ""
+
+
+def are_names_listed(validators: Validators) -> bool:
+    """Whether a message, a list or a call that isn't there raises a LookupError with those that are."""
+    said = [
+        lookup(lambda: validators.whole("mls_keypackage", b"")),
+        lookup(lambda: validators.fields("mls_ratchet_tree", b"")),
+        lookup(lambda: list(validators.elements("mls_extensions", b""))),
+        lookup(lambda: validators.outcome("mls_framed_content_tbs_encode", b"")),
+    ]
+    words = [set(re.findall(r"\w+", it)) for it in said]
+    listed = ["mls_ratchet_tree", "mls_key_package", "mls_extension", "mls_message_wire_format"]
+    return all(one in it for one, it in zip(listed, words)) and "mls_key_package_locate" not in words[1] and "mls_message" not in words[2]
+
+
 def main() -> int:
     validators = Validators(sys.argv[1])
     with open(sys.argv[2], encoding="utf-8") as file:
         rows = [line.rstrip("\n").split("\t") for line in file]
     failed = [is_as_expected(validators, it) for it in rows].count(False)
-    failed += [are_rejections_worded(validators), are_buffers_taken(validators), are_fields_named(validators)].count(False)
+    failed += [are_rejections_worded(validators), are_buffers_taken(validators)].count(False)
+    failed += [are_fields_named(validators), are_names_listed(validators)].count(False)
     print(f"{len(rows)} rows, {failed} failed")
     return 1 if failed or len(rows) < 100 else 0
 

@@ -26,8 +26,12 @@ CALLS = ("_validate_prefix", "_locate", "_next", "_wire_format", "_encode", "_de
 ASKED = {"_validate_prefix": ": whether the bytes begin with one.", "_decode_check": ": whether the bytes begin with one, by the decoder."}
 WHOLE = ": whether the bytes are one, with nothing after it."
 FOUND = re.compile(r"(its fields are|its content is)\.")
-# What C says of pointers, beside the text in the source.
-POINTERS = " `out` must not overlap `content` or `context`; an empty `context` may be NULL."
+# What C says of the buffers, beside the text in the source.
+POINTERS = (
+    " `out_length` has to be at least 4 + `content_length` + `context_length`, the number of bytes that are written. Status 0 says that the"
+    " first `taken` of them are a `FramedContentTBS`, not that `content` ends where you say: validate both parts before, or take them from"
+    " `NAME_locate`. `out` must not overlap `content` or `context`; an empty `context` may be NULL."
+)
 # What is said of a field of a struct beside its definition: how the bytes of its span begin.
 INSIDE = {
     "`Sender sender;`": ": a byte of `SenderType`, then of a member or an external sender its index, a uint32",

@@ -43,29 +43,34 @@ LISTS = (
     "The elements of a list. `*left` is the place in `bytes` of the elements that are left: at first offset 0 and size `length`, if `bytes`"
     " are the list without its length. If the first of them is accepted, its place is put into `*element`, and `*left` begins after it and"
     " ends where it ended. If it is rejected, neither changes, and `at` counts from the first byte of `*left`. Go on until `left->size`"
-    " is 0."
+    " is 0. Only those bytes of `*left` are read that are in `bytes`, as if it ended where they end. If there are none, as when `left->size` is 0,"
+    " the status is `TLS_CODEC_END_OF_STREAM`."
 )
 
 # At the end of lengths.h.
 READERS = """\
-/* The number that a field of 2, 3, 4 or 8 bytes has, and the value of a variable-length integer that
-   `tls_codec_varint_validate_prefix` accepts. All of these bytes have to be there. */
+/* The number that a field of 2 bytes has, a `uint16`. The bytes have to be there. */
 static inline uint16_t tls_codec_u16(const uint8_t *bytes) {
   return (uint16_t)(bytes[0] << 8 | bytes[1]);
 }
 
+/* Of 3 bytes, a `uint24`. */
 static inline uint32_t tls_codec_u24(const uint8_t *bytes) {
   return (uint32_t)bytes[0] << 16 | tls_codec_u16(bytes + 1);
 }
 
+/* Of 4 bytes, a `uint32`, such as `leaf_index`. */
 static inline uint32_t tls_codec_u32(const uint8_t *bytes) {
   return (uint32_t)tls_codec_u16(bytes) << 16 | tls_codec_u16(bytes + 2);
 }
 
+/* Of 8 bytes, a `uint64`, such as `epoch`. */
 static inline uint64_t tls_codec_u64(const uint8_t *bytes) {
   return (uint64_t)tls_codec_u32(bytes) << 32 | tls_codec_u32(bytes + 4);
 }
 
+/* The value of a variable-length integer that `tls_codec_varint_validate_prefix` accepts: 1, 2, 4 or
+   8 bytes. */
 static inline uint64_t tls_codec_varint_value(const uint8_t *bytes) {
   switch (bytes[0] >> 6) {
   case 0: return bytes[0];

@@ -39,24 +39,28 @@ tls_codec_outcome tls_codec_opaque_u24_locate(const uint8_t *bytes, size_t lengt
 }
 #endif
 
-/* The number that a field of 2, 3, 4 or 8 bytes has, and the value of a variable-length integer that
-   `tls_codec_varint_validate_prefix` accepts. All of these bytes have to be there. */
+/* The number that a field of 2 bytes has, a `uint16`. The bytes have to be there. */
 static inline uint16_t tls_codec_u16(const uint8_t *bytes) {
   return (uint16_t)(bytes[0] << 8 | bytes[1]);
 }
 
+/* Of 3 bytes, a `uint24`. */
 static inline uint32_t tls_codec_u24(const uint8_t *bytes) {
   return (uint32_t)bytes[0] << 16 | tls_codec_u16(bytes + 1);
 }
 
+/* Of 4 bytes, a `uint32`, such as `leaf_index`. */
 static inline uint32_t tls_codec_u32(const uint8_t *bytes) {
   return (uint32_t)tls_codec_u16(bytes) << 16 | tls_codec_u16(bytes + 2);
 }
 
+/* Of 8 bytes, a `uint64`, such as `epoch`. */
 static inline uint64_t tls_codec_u64(const uint8_t *bytes) {
   return (uint64_t)tls_codec_u32(bytes) << 32 | tls_codec_u32(bytes + 4);
 }
 
+/* The value of a variable-length integer that `tls_codec_varint_validate_prefix` accepts: 1, 2, 4 or
+   8 bytes. */
 static inline uint64_t tls_codec_varint_value(const uint8_t *bytes) {
   switch (bytes[0] >> 6) {
   case 0: return bytes[0];

@@ -429,7 +429,8 @@ tls_codec_outcome mls_proposal_locate(const uint8_t *bytes, size_t length, mls_p
    offset 0 and size `length`, if `bytes` are the list without its length. If the first of them is
    accepted, its place is put into `*element`, and `*left` begins after it and ends where it ended.
    If it is rejected, neither changes, and `at` counts from the first byte of `*left`. Go on until
-   `left->size` is 0. */
+   `left->size` is 0. Only those bytes of `*left` are read that are in `bytes`, as if it ended where
+   they end. If there are none, as when `left->size` is 0, the status is `TLS_CODEC_END_OF_STREAM`. */
 
 /* `Extension` (RFC 9420, section 7.2): the next one of a list. */
 tls_codec_outcome mls_extension_next(const uint8_t *bytes, size_t length, tls_codec_span *left, tls_codec_span *element);
@@ -454,8 +455,11 @@ tls_codec_outcome mls_message_wire_format(const uint8_t *bytes, size_t length, u
    a private message 2. The result is that of validation for the written bytes, and `at` counts from
    the first of them. Use them only if all of them are accepted: a context that isn't signed would
    be left over. They are written even if they are rejected. If `out` has too little room, nothing
-   is written: `TLS_CODEC_INVALID_WRITE_LENGTH`. `out` must not overlap `content` or `context`; an
-   empty `context` may be NULL. */
+   is written: `TLS_CODEC_INVALID_WRITE_LENGTH`. `out_length` has to be at least 4 +
+   `content_length` + `context_length`, the number of bytes that are written. Status 0 says that the
+   first `taken` of them are a `FramedContentTBS`, not that `content` ends where you say: validate
+   both parts before, or take them from `NAME_locate`. `out` must not overlap `content` or
+   `context`; an empty `context` may be NULL. */
 tls_codec_outcome mls_framed_content_tbs_encode(uint16_t wire_format, const uint8_t *content, size_t content_length, const uint8_t *context, size_t context_length, uint8_t *out, size_t out_length);
 
 #ifdef __cplusplus

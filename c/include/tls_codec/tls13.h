@@ -415,7 +415,8 @@ tls_codec_outcome tls13_alert_locate(const uint8_t *bytes, size_t length, tls13_
    offset 0 and size `length`, if `bytes` are the list without its length. If the first of them is
    accepted, its place is put into `*element`, and `*left` begins after it and ends where it ended.
    If it is rejected, neither changes, and `at` counts from the first byte of `*left`. Go on until
-   `left->size` is 0. */
+   `left->size` is 0. Only those bytes of `*left` are read that are in `bytes`, as if it ended where
+   they end. If there are none, as when `left->size` is 0, the status is `TLS_CODEC_END_OF_STREAM`. */
 
 /* `Extension` (RFC 8446, section 4.2): the next one of a list. */
 tls_codec_outcome tls13_extension_next(const uint8_t *bytes, size_t length, tls_codec_span *left, tls_codec_span *element);
