@@ -40,7 +40,7 @@ pub const VERSION: &str = env!("CARGO_PKG_VERSION");
 /// Why bytes are rejected, and where.
 #[derive(Clone, Copy, PartialEq, Eq, Debug)]
 pub struct Rejected {
-    /// An error that the decoder may name of these bytes.
+    /// One of the errors that the decoder may return for these bytes.
     pub error: Error,
     /// Where the first byte of the rejected field is; of `TrailingData` the first byte that is left.
     pub at: usize,

@@ -12,7 +12,7 @@ from lib.caller_room import COMMIT, SANITIZED, WARNINGS, Failed, Room
 from lib.page_commands import copy_of_clone, difference, script_of
 
 # The pages whose commands are run, and how many each has at least, without those of CMake.
-READMES = {"c/README.md": 6, "rust/README.md": 3, "python/README.md": 2}
+READMES = {"c/README.md": 6, "rust/README.md": 4, "python/README.md": 3}
 
 
 def boundary(room: Room) -> None:
