@@ -1,5 +1,5 @@
-"""Validates messages of TLS 1.3 and MLS by the static libraries of this repository, linked as one shared object: `tools/archives.py --shared`
-puts it into c/out.
+"""Validates messages of TLS 1.3 and MLS by the static libraries of this repository, linked as one shared object, which
+`tools/archives.py --shared` puts into c/out.
 
     validators = Validators("c/out/libtls_codec.so")
     message = validators.whole("mls_key_package", data)
@@ -7,8 +7,8 @@ puts it into c/out.
     content = validators.fields("tls_codec_opaque_v", extensions)["content"]
     for extension in validators.elements("mls_extension", content): ...
 
-A number's field is its bytes: `int.from_bytes(fields["epoch"], "big")`. Bytes that are rejected raise `Rejected`, a `ValueError`. A name that
-isn't in the headers raises a `LookupError`, which lists those that are.
+A number's field is its bytes: `int.from_bytes(fields["epoch"], "big")`. Bytes that are rejected raise `Rejected`, a `ValueError`. A
+name that isn't in the headers raises a `LookupError`, which lists those that are.
 
 docs/CALLERS.md says what is proved and what is trusted.
 """
@@ -94,7 +94,7 @@ class Validators:
         return outcome
 
     def split(self, message: str, data: Buffer) -> tuple[bytes, bytes]:
-        """The message that the bytes begin with, and the rest of them. The message is named as in the headers, without `_validate_prefix`."""
+        """The message that the bytes begin with, and the rest. The message is named as in the headers, without `_validate_prefix`."""
         data = plain(data)
         outcome = self.accepted(self.named(message, "_validate_prefix"), data)
         return data[: outcome.taken], data[outcome.taken :]

@@ -1,5 +1,6 @@
 #!/usr/bin/env python3
-"""beside_rust.py PATH [SECONDS]: compares libtls_codec_lengths.a with the Rust crate `tls_codec`, whose sources are at PATH, in one process.
+"""beside_rust.py PATH [SECONDS]: compares libtls_codec_lengths.a with the Rust crate `tls_codec`, whose sources are at PATH, in one
+process.
 
 Its sources aren't part of this repository. A cargo project in a temporary folder has the crate, with its feature `mls`, and rust/. For
 SECONDS, 10 if none are given, each makes what it makes of lengths and their contents, true, lying, too wide and cut short: the crate from a

@@ -30,6 +30,13 @@ VERSION_LINE = re.compile(r'^(version = "|Version: )[\d.]+', re.M)
 # The file beside archives that says which headers they are of, and those that it is compared with.
 MARK = "tls_codec.version"
 MARKS = ["c", "rust"]
+# What Python says of the fields of `fields_with_length`.
+WITH_LENGTH = [
+    "# Fields whose bytes begin, in some case or in each, with a length that the header names. Other fields that are a struct,",
+    "# an option or a case have the lengths of their parts in them, and aren't listed.",
+]
+
+
 def struct_in_c(kind: str) -> list[str]:
     name, lines = type_in_c(kind), comment(structs()[kind].text)
     lines.append(f"typedef struct {name} {{")
@@ -174,8 +181,8 @@ def exports_python() -> str:
     lines += [f'    "{it}",' for it in called_by_outcome()]
     lines += ["]", "", "# What `NAME_locate` fills, in this order, by NAME.", "FIELDS = {"]
     lines += [f'    "{message}": {json.dumps(names)},' for message, names in located_fields().items()]
-    lines += ["}", "", "# Fields whose bytes begin, in some case or in each, with a length that the header names. Other fields that are a struct,"]
-    lines += ["# an option or a case have the lengths of their parts in them, and aren't listed.", "WITH_LENGTH = {", *[f'    "{message}": {json.dumps(names)},' for message, names in fields_with_length().items()]]
+    lines += ["}", "", *WITH_LENGTH, "WITH_LENGTH = {"]
+    lines += [f'    "{message}": {json.dumps(names)},' for message, names in fields_with_length().items()]
     return "\n".join([*lines, "}", *enums_in_python(), ""])
 
 

@@ -41,7 +41,9 @@ static int is_read(const struct number *it, int is_varint) {
 /* Numbers of registries: RFC 8446, appendices B.3.1.3, B.3.1.4 and B.4, and RFC 9420, section 17.1. */
 static int are_named(void) {
   int is_well = TLS13_SIGNATURE_SCHEME_ED25519 == 0x0807 && TLS13_NAMED_GROUP_X25519 == 0x001d &&
-                TLS13_CIPHER_SUITE_TLS_CHACHA20_POLY1305_SHA256 == 0x1303 && MLS_PROTOCOL_VERSION_MLS10 == 1 &&
+                TLS13_CIPHER_SUITE_TLS_AES_128_GCM_SHA256 == 0x1301 && TLS13_CIPHER_SUITE_TLS_AES_256_GCM_SHA384 == 0x1302 &&
+                TLS13_CIPHER_SUITE_TLS_CHACHA20_POLY1305_SHA256 == 0x1303 && TLS13_CIPHER_SUITE_TLS_AES_128_CCM_SHA256 == 0x1304 &&
+                TLS13_CIPHER_SUITE_TLS_AES_128_CCM_8_SHA256 == 0x1305 && MLS_PROTOCOL_VERSION_MLS10 == 1 &&
                 MLS_CIPHER_SUITE_MLS_256_DHKEMP384_AES256GCM_SHA384_P384 == 7;
   if (!is_well) printf("a name of a registry has another number\n");
   return is_well;

@@ -1,6 +1,7 @@
 """rows.py LIBRARY ROWS: what the module says of each row of `test_outcome`, or of c/tests/tls13.tsv, and of the first the fields."""
 from __future__ import annotations
 
+import ctypes
 import pathlib
 import re
 import sys
@@ -122,9 +123,13 @@ def are_names_listed(validators: Validators) -> bool:
         lookup(lambda: list(validators.elements("mls_extensions", b""))),
         lookup(lambda: validators.outcome("mls_framed_content_tbs_encode", b"")),
     ]
+    bare = Validators(sys.argv[1])
+    bare.library = ctypes.CDLL(None)
+    is_lacking = lookup(lambda: bare.whole("mls_message", b"")) == "this shared object has no 'mls_message_validate_prefix'"
     words = [set(re.findall(r"\w+", it)) for it in said]
     listed = ["mls_ratchet_tree", "mls_key_package", "mls_extension", "mls_message_wire_format"]
-    return all(one in it for one, it in zip(listed, words)) and "mls_key_package_locate" not in words[1] and "mls_message" not in words[2]
+    is_short = "mls_key_package_locate" not in words[1] and "mls_message" not in words[2]
+    return is_lacking and is_short and all(one in it for one, it in zip(listed, words))
 
 
 def main() -> int:

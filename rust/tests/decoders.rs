@@ -8,10 +8,13 @@ use std::time::{Duration, Instant};
 use std::{env, fs};
 use tls_codec_validators::{Error, Rejected, mls, mls_check, tls13, tls13_check};
 
+/// The message that bytes begin with, and the rest.
+type Split<'a, E> = Result<(&'a [u8], &'a [u8]), E>;
+
 struct Message {
     name: &'static str,
-    validate_prefix: fn(&[u8]) -> Result<(&[u8], &[u8]), Rejected>,
-    decode_prefix: fn(&[u8]) -> Result<(&[u8], &[u8]), Error>,
+    validate_prefix: fn(&[u8]) -> Split<'_, Rejected>,
+    decode_prefix: fn(&[u8]) -> Split<'_, Error>,
     decode: fn(&[u8]) -> Result<(), Error>,
 }
 

@@ -3,6 +3,7 @@
 - The repository and what is built of it: libraries (folders, crates), cases (`rt try --cases`), edits and verdicts (wrong bodies).
 - Readers that share no code with the crates: presentation and message_reader (texts of RFCs), row_reader (types), outcome_reader
   (messages), shown (numbers, dates), rejections (rejected inputs of tlsdump).
-- Callers: exported and registries (what is exported), headers and exports_rust (what exports.py writes), shared_object; caller_* is of test_callers.py.
+- Callers: exported and registries (what is exported), headers and exports_rust (what exports.py writes), shared_object; caller_* is of
+  test_callers.py.
 - Pages: blocks, page_commands, figures. The folder laws/ is of write_laws.py.
 """

@@ -15,9 +15,9 @@ REWORDED = {
     " accepted: a context that isn't signed would be left over. They are written even if they are rejected. If `out` has too little room,"
     " nothing is written: `InvalidWriteLength`.": "Returns the written bytes, if all of them are accepted. Else the error is that of"
     " validation, and its place counts from the first byte of `out`, which they stay in; a context that isn't signed is `TrailingData`."
-    " `out` has to have at least 4 + `content.len()` + `context.len()` bytes, the number of those that are written. If it has fewer, nothing"
-    " is written, and the error is `InvalidWriteLength`. `Ok` says that the written bytes are a `FramedContentTBS`, not that `content` ends"
-    " where you say: validate both parts before, or take them from `locate_NAME`.",
+    " `out` has to have at least 4 + `content.len()` + `context.len()` bytes, the number of those that are written. If it has fewer,"
+    " nothing is written, and the error is `InvalidWriteLength`. `Ok` says that the written bytes are a `FramedContentTBS`, not that"
+    " `content` ends where you say: validate both parts before, or take them from `locate_NAME`.",
 }
 # How many bytes an encoder writes beside its parts: of a FramedContentTBS the version and the wire format.
 BESIDE = {"mls_framed_content_tbs_encode": 4}

@@ -43,8 +43,8 @@ LISTS = (
     "The elements of a list. `*left` is the place in `bytes` of the elements that are left: at first offset 0 and size `length`, if `bytes`"
     " are the list without its length. If the first of them is accepted, its place is put into `*element`, and `*left` begins after it and"
     " ends where it ended. If it is rejected, neither changes, and `at` counts from the first byte of `*left`. Go on until `left->size`"
-    " is 0. Only those bytes of `*left` are read that are in `bytes`, as if it ended where they end. If there are none, as when `left->size` is 0,"
-    " the status is `TLS_CODEC_END_OF_STREAM`."
+    " is 0. Only those bytes of `*left` are read that are in `bytes`, as if it ended where they end. If there are none, as when"
+    " `left->size` is 0, the status is `TLS_CODEC_END_OF_STREAM`."
 )
 
 # At the end of lengths.h.

@@ -1,4 +1,4 @@
-"""The enums whose numbers have names in C, Rust and Python, read from the texts and notes in crates/tlsgen/data."""
+"""The enums whose numbers have names in C, Rust and Python, read from the texts and notes in crates/tlsgen/data, or listed here."""
 from __future__ import annotations
 
 import re
