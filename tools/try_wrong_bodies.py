@@ -7,7 +7,7 @@ all its functions at once, one a function, and each must be refused for a goal o
 file as in must-fail/, with the function that it turns (lib/edits.py). One that only waits for a callee is tried once more alone.
 
 It runs after `rt ci`, over the libraries that this left in crates/*/out/rlib. That each crate is proved as it is, `rt ci`
-says. -j: that many checks at a time; else as many as there are processors and memory for. --incremental: begins with what `rt
+says. -j: that many checks at a time; else as many as there are processors and half of the memory for. --incremental: begins with what `rt
 check` kept, for who writes an edit and has little time. --output: writes there what rattle printed in each check. The last line is
 'N passed, N failed', and the status is 1 if one failed.
 
@@ -102,10 +102,10 @@ def refresh(libraries: Libraries, crates: list[str]) -> None:
 
 
 def lanes() -> int:
-    """How many checks the processors and the free memory allow at a time."""
+    """How many checks the processors and half of the free memory allow at a time: .ci/run has other scripts beside it."""
     text = pathlib.Path("/proc/meminfo").read_text()
     free = next(int(line.split()[1]) * 1024 for line in text.splitlines() if line.startswith("MemAvailable"))
-    return max(1, min(len(os.sched_getaffinity(0)), free // MEMORY))
+    return max(1, min(len(os.sched_getaffinity(0)), free // 2 // MEMORY))
 
 
 def main() -> int:
