@@ -137,7 +137,7 @@ def make(folder: pathlib.Path) -> None:
     """Writes the runs that aren't stored."""
     for name, count in MADE.items():
         content = count - 5
-        (folder / name).write_bytes(b"\0" + (1 << 31 | content).to_bytes(4) + b"\xaa" * content)
+        (folder / name).write_bytes(b"\0" + (1 << 31 | content).to_bytes(4, "big") + b"\xaa" * content)
         (folder / f"{name}.args").write_text("--binary\n--short\nHPKECiphertext\n")
         (folder / f"{name}.stdout").write_text(SHOWN[name])
 

@@ -264,7 +264,7 @@ class Reader:
         if kind == "bounded":
             least, most = bounds
             width = (most.bit_length() + 7) // 8
-            count = int.from_bytes(self.take(width, label, depth))
+            count = int.from_bytes(self.take(width, label, depth), "big")
             if not least <= count <= most:
                 raise Rejected(label, depth)
             return count, width
@@ -272,7 +272,7 @@ class Reader:
         width = 1 << (first >> 6)
         if width == 8:
             raise Rejected(label, depth)
-        count = (first & 0x3F) << 8 * (width - 1) | int.from_bytes(self.take(width - 1, label, depth))
+        count = (first & 0x3F) << 8 * (width - 1) | int.from_bytes(self.take(width - 1, label, depth), "big")
         if width > 1 and count < 1 << (8 * (width // 2) - 2):
             raise Rejected(label, depth)
         return count, width
@@ -337,13 +337,13 @@ class Reader:
         if of in self.text.enums:
             values, width = self.text.enums[of]
             data = self.take(width, label, depth)
-            names = {int.from_bytes(data): name for first, last, name in values if first <= int.from_bytes(data) <= last}
-            self.check(owner, of, label, depth, int.from_bytes(data))
-            self.known[label] = names.get(int.from_bytes(data))
+            names = {int.from_bytes(data, "big"): name for first, last, name in values if first <= int.from_bytes(data, "big") <= last}
+            self.check(owner, of, label, depth, int.from_bytes(data, "big"))
+            self.known[label] = names.get(int.from_bytes(data, "big"))
             return self.code(at, label, depth, data, names)
         if of in WIDTHS:
             data = self.take(WIDTHS[of], label, depth)
-            number = self.known[label] = int.from_bytes(data)
+            number = self.known[label] = int.from_bytes(data, "big")
             self.check(owner, of, label, depth, number)
             if (owner, label) == ("Handshake", "length"):
                 if number > self.left():
@@ -355,7 +355,7 @@ class Reader:
         if other["vector"] == ("one",) and other["of"] in WIDTHS:
             data = self.take(WIDTHS[other["of"]], label, depth)
             names = TLS_NAMES.get(of, {}) if self.protocol == "tls" else {}
-            self.check(owner, of, label, depth, int.from_bytes(data))
+            self.check(owner, of, label, depth, int.from_bytes(data, "big"))
             return self.code(at, label, depth, data, names)
         self.field(of, other, label, depth)
 
@@ -366,8 +366,8 @@ class Reader:
 
     def code(self, at: int, label: str | None, depth: int, data: bytes, names: dict[int, str]) -> None:
         """The line of a number that may have a name."""
-        name = names.get(int.from_bytes(data))
+        name = names.get(int.from_bytes(data, "big"))
         if name is None and len(data) == 2 and data[0] == data[1] and data[0] & 15 == 10:
             name = "GREASE"
         digits = f"0x{data.hex()}"
-        self.line(at, depth, label, f"{name} ({digits})" if name else digits, number=int.from_bytes(data), code=name)
+        self.line(at, depth, label, f"{name} ({digits})" if name else digits, number=int.from_bytes(data, "big"), code=name)
