@@ -14,20 +14,10 @@ import sys
 import tempfile
 
 from lib import cases
-from lib.libraries import CRATES, DATA, TEXTS
+from lib.generated import RUNS, add, stored_files
+from lib.libraries import CRATES, DATA
 
 STORED = "hello"
-
-
-def words(crate: str, text: str) -> list[str]:
-    """The words for a crate: its notes, and those that it uses with theirs."""
-    uses = re.search(rf"^{crate}:(.*)$", (CRATES.parent / "crates.txt").read_text(), re.M).group(1).split()
-    others = [f"{other}={TEXTS[other]}.tls,{TEXTS[other]}.notes" for other in uses if other in TEXTS]
-    return ["--notes", f"{text}.notes"] + [word for other in others for word in ("--with", other)]
-
-
-# For each run: the crate whose files are compared, the text, and the words.
-RUNS = {crate: (crate, text, words(crate, text)) for crate, text in TEXTS.items()}
 
 
 def files_of(crate: str) -> list[str]:
@@ -35,18 +25,6 @@ def files_of(crate: str) -> list[str]:
     folder = CRATES / crate
     found = [it for part in ("src", "specs", "proofs") for it in sorted(folder.glob(f"{part}/**/*"))]
     return [str(it.relative_to(folder)) for it in found if it.is_file()]
-
-
-def add(folder: str, name: str, text: str, more: list[str], crate: str | None = None) -> None:
-    """Adds a run of tlsgen to a folder of cases: from a text to a crate, which has the run's name if none is given."""
-    pathlib.Path(folder, name).touch()
-    pathlib.Path(folder, f"{name}.args").write_text("\n".join([f"{text}.tls", "--crate", crate or name, *more]) + "\n")
-
-
-def stored_files() -> dict[str, str]:
-    """The files that the stored output has, by their paths."""
-    printed = (CRATES / "tlsgen" / "stdout").read_text()
-    return dict(re.findall(r"^=== (\S+)\n(.*?)(?=^=== |\Z)", printed, re.M | re.S))
 
 
 def faults() -> dict[str, tuple[dict[str, str], str]]:

@@ -9,7 +9,7 @@ from __future__ import annotations
 
 import sys
 
-from check_trees import bytes_of, named
+from lib.dump_input import bytes_of, named, words_of
 from lib.libraries import CRATES, TOP
 from lib.message_reader import PROTOCOLS, Text
 from lib.outcome_reader import TEXTS, Outcome, Span, elements, first_rejected, located
@@ -89,7 +89,7 @@ def unnoticed() -> list[str]:
 
 def wrong_rejection(name: str, said: str) -> str | None:
     """What is wrong with what tlsdump says of a stored input, as rejections.py has it."""
-    words = (RUNS / f"{name}.args").read_text().split() if (RUNS / f"{name}.args").exists() else []
+    words = words_of(RUNS / name)
     data = bytes_of((RUNS / name).read_bytes(), words)
     protocol, of = named(words, data)
     rejected = first_rejected(Text(PROTOCOLS[protocol]), of, data)

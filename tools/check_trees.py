@@ -2,24 +2,39 @@
 """Reads the stored inputs of `tlsdump` anew, by the texts of crates/tlsgen/data, and compares what it prints of them.
 
 It shares no code with `tlsdump`. With --write it writes the outputs (NAME.stdout). A tree has all bytes of its input: each line
-takes them from one reader, which ends at the last one.
+takes them from one reader, which ends at the last one. It also tries outputs with one fault each, and an input.
 """
-import base64
+from __future__ import annotations
+
 import json
+import pathlib
 import re
 import sys
+from typing import Any
 
+from lib.dump_input import bytes_of, named, words_of
 from lib.libraries import CRATES
-from lib.message_reader import PROTOCOLS, Reader, Rejected, Text
+from lib.message_reader import PROTOCOLS, Line, Reader, Rejected, Text
 from lib.presentation import Parser, name_of
 from lib.rejections import REJECTIONS, UNREAD
 from lib.shown import counted
 
+FOLDER = CRATES / "tlsdump"
 # outputs that are no tree
 BY_HAND = ("help", "version")
+# What is changed of a stored run, to see that a wrong one is found: a text of its output or of its input, and what is put in its place.
+OUTPUT, INPUT = "output", "input"
+PLANTS = {
+    "a wrong line": ("lifetime", OUTPUT, "not_before: 1699973888 (", "not_before: 1699973889 ("),
+    "a wrong offset": ("ratchet_tree", OUTPUT, "       6          node_type", "       7          node_type"),
+    "a dropped line": ("ratchet_tree", OUTPUT, "       4        [0]: none\n", ""),
+    "a dropped element of JSON": ("as_json", OUTPUT, '          "offset": 2,\n', ""),
+    "another byte": ("lifetime", INPUT, "0000000065538b00", "0000000065538b01"),
+}
 
 
-def show(line, options):
+def show(line: Line, options: list[str]) -> str:
+    """A line of the tree, as it is printed."""
     shown = line["shown"]
     if "bytes" in line:
         data = line["bytes"]
@@ -31,13 +46,13 @@ def show(line, options):
     return f"{front}{'  ' * line['depth']}{line['label']}: {shown}\n"
 
 
-def tree_of(lines):
+def tree_of(lines: list[Line]) -> list[dict[str, Any]]:
     """Lines as JSON's values, of the depth of the first one."""
     values = []
     for at, line in enumerate(lines):
         if line["depth"] != lines[0]["depth"]:
             continue
-        value = {"offset": line["at"]}
+        value: dict[str, Any] = {"offset": line["at"]}
         label = line["label"]
         value.update({"index": int(label[1:-1])} if label.startswith("[") else {"name": label})
         if "below" in line:
@@ -57,32 +72,13 @@ def tree_of(lines):
     return values
 
 
-def bytes_of(given, options):
-    if "--binary" in options:
-        return given
-    text = given.decode()
-    if re.match(r"[0-9a-f]{8}: ", text):
-        text = "".join(line[10:].split("  ")[0] for line in text.splitlines())
-    digits = re.sub(r"0x|[\s:,]", "", text)
-    return bytes.fromhex(digits) if re.fullmatch(r"[0-9a-fA-F]*", digits) else base64.b64decode(text, validate=False)
-
-
-def named(words, given):
-    """The protocol and the type that the words or the first bytes name."""
-    names = [word for word in words if not word.startswith("--")]
-    if not names or names[0] == "auto":
-        return ("mls", "MLSMessage") if given[0] == 0 else ("tls", "TLSPlaintext")
-    if "." in names[0]:
-        return tuple(names[0].split(".", 1))
-    return next((protocol, names[0]) for protocol in ("ct", "tls", "mls") if names[0] in Text(PROTOCOLS[protocol]).structs)
-
-
-def position(reason):
+def position(reason: str) -> int:
     """The byte that the line of a rejection names."""
     return int(re.match(r"rejected at byte (\d+), ", reason)[1])
 
 
-def printed(given, words, reason):
+def printed(given: bytes, words: list[str], reason: str | None) -> str:
+    """What is printed of an input: its messages as a tree or as JSON, whose reason of a rejection is given."""
     data = bytes_of(given, words)
     protocol, of = named(words, data)
     text, at, out, values = Text(PROTOCOLS[protocol]), 0, "", []
@@ -133,7 +129,7 @@ def structs_of(protocol: str) -> set[str]:
     return names
 
 
-def listed():
+def listed() -> str:
     """What --list prints: the structs of the texts, but those of NOT_SHOWN, with the sections that the texts' comments name."""
     out, left_out = "", set().union(*NOT_SHOWN.values())
     structs = {protocol: structs_of(protocol) for protocol in ("mls", "tls", "ct")}
@@ -158,34 +154,51 @@ def listed():
     return out
 
 
-def main():
-    folder = CRATES / "tlsdump"
-    passed = failed = 0
-    for path in [folder / "stdin", *sorted((folder / "runs").iterdir())]:
-        if path.suffix:
-            continue
-        words = path.with_suffix(".args").read_text().split() if path.with_suffix(".args").exists() else []
-        stored = folder / "stdout" if path.name == "stdin" else path.with_suffix(".stdout")
-        if path.name in BY_HAND:
-            continue
-        if path.name in UNREAD:
-            tree = ""
-        elif path.name == "list":
-            tree = listed()
-        else:
-            given = folder / "data" / "message" if path.name == "file" else path
-            tree = printed(given.read_bytes(), words, REJECTIONS.get(path.name))
+def expected(run: pathlib.Path, given: bytes | None = None) -> str:
+    """What the texts say that a run prints, whose input is stored or given."""
+    if run.name in UNREAD:
+        return ""
+    if run.name == "list":
+        return listed()
+    stored = FOLDER / "data" / "message" if run.name == "file" else run
+    return printed(stored.read_bytes() if given is None else given, words_of(run), REJECTIONS.get(run.name))
+
+
+def output_of(run: pathlib.Path) -> pathlib.Path:
+    """The file with what a run prints."""
+    return FOLDER / "stdout" if run.name == "stdin" else run.with_suffix(".stdout")
+
+
+def selftest() -> list[str]:
+    """The planted faults that aren't found. A run without its plant has to pass."""
+    missed = []
+    for fault, (name, where, old, new) in PLANTS.items():
+        run = FOLDER / "runs" / name
+        stored, given = output_of(run).read_text(encoding="utf-8"), run.read_text(encoding="utf-8")
+        changed = {OUTPUT: stored, INPUT: given}
+        is_sound = changed[where].count(old) == 1 and expected(run) == stored
+        changed[where] = changed[where].replace(old, new)
+        if not is_sound or expected(run, changed[INPUT].encode()) == changed[OUTPUT]:
+            missed.append(f"selftest: not found, or not there to be found: {fault} of {name}")
+    return missed
+
+
+def main() -> int:
+    failed = []
+    runs = [it for it in [FOLDER / "stdin", *sorted((FOLDER / "runs").iterdir())] if not it.suffix and it.name not in BY_HAND]
+    for run in runs:
+        tree, stored = expected(run), output_of(run)
         if "--write" in sys.argv:
-            stored.write_text(tree)
-        if stored.is_file() and stored.read_text() == tree:
-            passed += 1
-        else:
-            failed += 1
-            print(f"{path.name}: another tree\n{tree}")
-    print(f"{passed} of {passed + failed} stored outputs of tlsdump are what the texts say")
-    print(f"{passed} passed, {failed} failed")
-    sys.exit(failed > 0)
+            stored.write_text(tree, encoding="utf-8")
+        if not stored.is_file() or stored.read_text(encoding="utf-8") != tree:
+            failed.append(f"{run.name}: another tree\n{tree}")
+    failed += selftest()
+    print("".join(f"{it}\n" for it in failed), end="")
+    tried = len(runs) + len(PLANTS)
+    print(f"{len(runs)} stored outputs of tlsdump were compared with what the texts say")
+    print(f"{tried - len(failed)} passed, {len(failed)} failed")
+    return int(bool(failed))
 
 
 if __name__ == "__main__":
-    main()
+    sys.exit(main())

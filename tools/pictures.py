@@ -9,8 +9,8 @@ import pathlib
 import sys
 import textwrap
 
-import check_trees as trees
 from lib.libraries import TOP
+from lib.rejections import REJECTIONS
 
 WIDTH = 720
 MONO = "ui-monospace, Menlo, Consolas, 'DejaVu Sans Mono', monospace"
@@ -233,7 +233,7 @@ def tlsdump(dark):
     shown = (folder / "private_message.stdout").read_text().splitlines()
     rejected = (folder / "rejected_identity.stdout").read_text().splitlines()
     # the line on standard error, in the width of the picture
-    error = textwrap.wrap(f"tlsdump: {trees.REJECTIONS['rejected_identity']}", 95)
+    error = textwrap.wrap(f"tlsdump: {REJECTIONS['rejected_identity']}", 95)
     digits = (folder / "rejected_identity").read_text().strip()
     lines = [("ink", "$ tlsdump --binary auto private_message"), *[("soft", line) for line in shown], ("ink", "")]
     lines += [("ink", f"$ echo {digits} | tlsdump KeyPackage"), *[("soft", line) for line in rejected[:-1]]]

@@ -17,8 +17,7 @@ import subprocess
 import sys
 import tempfile
 
-import check_generated as generated
-from lib import cases, rejections
+from lib import cases, generated, rejections
 from lib.libraries import CRATES
 
 # The exit status of each run.

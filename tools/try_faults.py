@@ -24,8 +24,7 @@ import subprocess
 import sys
 import tempfile
 
-import check_generated as written
-from lib import cases, verdicts
+from lib import cases, generated, verdicts
 from lib.libraries import CRATES, DATA, TEXTS, TOP, Libraries
 
 # Pages of the laws that are the text's, and stay.
@@ -65,9 +64,9 @@ def with_faults(text: str, faults: list[Fault]) -> str:
 
 def written_from(data: pathlib.Path, crate: str, to: pathlib.Path) -> None:
     """What `tlsgen` writes for the texts of this folder, built without proof."""
-    _, text, more = written.RUNS[crate]
+    _, text, more = generated.RUNS[crate]
     with tempfile.TemporaryDirectory() as folder:
-        written.add(folder, "crate", text, more, crate)
+        generated.add(folder, "crate", text, more, crate)
         tried = cases.run("tlsgen", folder, cases.files_in(data))
     assert tried.names(0, as_expected=False) == {"crate"}, tried.printed[-2000:] + tried.said[-2000:]
     for path, code in re.findall(r"^=== (\S+)\n(.*?)(?=^=== |\Z)", tried.printed, re.M | re.S):

@@ -1,8 +1,9 @@
 """What the scripts in tools/ import. No module here imports a script.
 
-- The repository and what is built of it: libraries (folders, crates), cases (`rt try --cases`), edits and verdicts (wrong bodies).
+- The repository and what is built of it: libraries (folders, crates), cases (`rt try --cases`), generated (runs of `tlsgen`), edits and
+  verdicts (wrong bodies).
 - Readers that share no code with the crates: presentation and message_reader (texts of RFCs), row_reader (types), outcome_reader
-  (messages), shown (numbers, dates), rejections (rejected inputs of tlsdump).
+  (messages), shown (numbers, dates), dump_input (inputs of `tlsdump`), rejections (those that it rejects).
 - Callers: exported and registries (what is exported), headers and exports_rust (what exports.py writes), shared_object; caller_* is of
   test_callers.py.
 - Pages: blocks, page_commands, figures. The folder laws/ is of write_laws.py.
