@@ -9,12 +9,12 @@
 - A name in `code` that is a path under crates/, docs/, tools/ or .ci/, or has an underscore in it, has to occur in the repository;
   names of what was before, in CHANGELOG.md, and a few of elsewhere don't.
 - No line is one that a merge left.
-- No word is one of the dialect (tools/dialect.py). The pages are short, and their reading lists closed (tools/reading.py).
-- The pictures are what tools/pictures.py draws.
+- No word is one of the dialect (tools/dialect.py). The pages are short, and their reading lists closed (tools/page_limits.py).
+- The pictures are what tools/pictures.py draws. No module of tools/lib imports a script of tools/.
 
 Before that it tries its checks on lines with one fault each. Prints a line for each place that doesn't match, and last 'N passed, N
-failed', which counts pages and pictures, and as one each these lines, the words of all sources, and what tools/reading.py checks; the exit
-status is 1 if one failed.
+failed', which counts pages and pictures, and as one each these lines, the words of all sources, the imports, and what tools/page_limits.py
+checks; the exit status is 1 if one failed.
 """
 from __future__ import annotations
 
@@ -24,8 +24,8 @@ import sys
 from collections.abc import Iterator
 
 import dialect
+import page_limits
 import pictures
-import reading
 from lib.blocks import NOT_QUOTED, blocks, prose
 from lib.libraries import PAGES, TOP, files_of_clone
 
@@ -148,6 +148,13 @@ def check_merged(lines: list[str]) -> Iterator[Fault]:
             yield number, "left by a merge"
 
 
+def scripts_imported(modules: dict[str, str]) -> list[tuple[str, str]]:
+    """The scripts of tools/ that these modules import, by the module's name."""
+    scripts = "|".join(path.stem for path in (TOP / "tools").glob("*.py"))
+    imported = re.compile(rf"^\s*(?:import|from) ({scripts})\b", re.M)
+    return [(name, script) for name, text in modules.items() for script in imported.findall(text)]
+
+
 def selftest() -> list[str]:
     """The planted faults that aren't found, and what is found in lines that have none."""
     head, clause, other = "pub fn half(x: u8) -> u8", "requires even { x }", "ensures half { x }"
@@ -166,10 +173,12 @@ def selftest() -> list[str]:
         "no path": check_names(["`tools/nowhere.py`"], set()),
         "a line of a merge": check_merged(["<<<<<<< HEAD"]),
         "a word of the dialect": dialect.words_in("It stands there."),
+        "a script in a module": scripts_imported({"one.py": "import re\n    import dialect\n"}),
+        "a name of a script": scripts_imported({"one.py": "from dialect import words_in\n"}),
     }
     names = check_names(["`one_name` of `tools/check_pages.py`"], {"one_name"})
     sound = [*quote(head, clause, other, "{"), *check_links(page, ["[one](docs/MAP.md)"]), *names]
-    sound += [*check_merged(["==="]), *dialect.words_in("It is there.")]
+    sound += [*check_merged(["==="]), *dialect.words_in("It is there."), *scripts_imported({"one.py": "import re\nfrom lib.blocks import prose\n"})]
     missed = [f"selftest: not found: {fault}" for fault, found in planted.items() if not list(found)]
     return missed + [f"selftest: found: {it}" for it in sound]
 
@@ -196,14 +205,18 @@ def main() -> int:
         for number, word, better in dialect.findings(source):
             print(f"{source.relative_to(TOP)}:{number}: {word!r}: {better}")
             failed.add("comments")
-    for text in reading.findings()[0]:
+    modules = {path.relative_to(TOP).as_posix(): path.read_text() for path in (TOP / "tools" / "lib").rglob("*.py")}
+    for name, script in scripts_imported(modules):
+        print(f"{name}: imports the script {script}")
+        failed.add("imports")
+    for text in page_limits.findings()[0]:
         print(text)
-        failed.add("reading")
+        failed.add("page_limits")
     for name, draw in pictures.PICTURES.items():
         if (TOP / "docs" / name).read_text() != draw(False).svg():
             print(f"docs/{name}: not as tools/pictures.py draws it")
             failed.add(name)
-    read = len(PAGES) + len(pictures.PICTURES) + 3
+    read = len(PAGES) + len(pictures.PICTURES) + 4
     compared = f"{len(PAGES)} pages and {len(pictures.PICTURES)} pictures were compared with the crates"
     print(f"{compared}, and the words of {len(commented)} sources read")
     print(f"{read - len(failed)} passed, {len(failed)} failed")
