@@ -178,7 +178,7 @@ def selftest() -> list[str]:
     }
     names = check_names(["`one_name` of `tools/check_pages.py`"], {"one_name"})
     sound = [*quote(head, clause, other, "{"), *check_links(page, ["[one](docs/MAP.md)"]), *names]
-    sound += [*check_merged(["==="]), *dialect.words_in("It is there."), *scripts_imported({"one.py": "import re\nfrom lib.blocks import prose\n"})]
+    sound += [*check_merged(["==="]), *dialect.words_in("It is there."), *scripts_imported({"one.py": "from lib.blocks import prose\n"})]
     missed = [f"selftest: not found: {fault}" for fault, found in planted.items() if not list(found)]
     return missed + [f"selftest: found: {it}" for it in sound]
 
