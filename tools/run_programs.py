@@ -4,8 +4,9 @@
 A program is built once, without proof (`rt try`). A run is a file with the input; NAME.args has its words, and
 NAME.stdout what it must print. rt ci runs a program on one input alone, and proves it again for another one.
 Then tlsdump runs with a request for memory refused: it prints nothing and ends with status 3. The program that `rt ci` left in out/
-runs with an output that is full, which is status 3 too, and on each input that is rejected or can't be read: standard error has one line,
-that of lib/rejections.py or of UNREAD. tlsgen, from out/ too, has runs that print nothing but what TLSGEN has for standard error: {} among
+runs so too, with the first request refused, the second, the fourth and so on (data/refused_request.c, by cc); with an output that is full,
+which is status 3; and on each input that is rejected or can't be read: standard error has one line, that of lib/rejections.py or of UNREAD.
+tlsgen, from out/ too, has runs that print nothing but what TLSGEN has for standard error: {} among
 their words names a copy of the input.
 """
 from __future__ import annotations
@@ -18,7 +19,7 @@ import sys
 import tempfile
 
 from lib import cases, generated, rejections
-from lib.libraries import CRATES
+from lib.libraries import CRATES, TOP
 
 # The exit status of each run.
 STATUS = {
@@ -127,9 +128,20 @@ TLSGEN = {
 # The run whose files are those of the output of `rt ci`.
 WRITES = "to_folder"
 
-# The request for memory of the run `key_package` of tlsdump that is refused, and the status where memory or the output fails.
+# The run of tlsdump whose requests for memory are refused, one that is refused in the checked build, and the status where memory or the
+# output fails.
+REQUESTS = "key_package"
 REFUSED = 1000
 NO_ROOM = 3
+# The status and what standard error has after a refused request: one of the program's own, one for its arguments, one of `clap`, which reads
+# them.
+AFTER_REFUSAL = {
+    (NO_ROOM, "tlsdump: memory allocation failed\n"),
+    (NO_ROOM, "tlsdump: out of memory\n"),
+    (2, "error: out of memory\n"),
+}
+# The least requests that are refused in the built program: the first, the second, the fourth, .., the 128th.
+LEAST_REFUSALS = 8
 
 
 def make(folder: pathlib.Path) -> None:
@@ -144,13 +156,34 @@ def make(folder: pathlib.Path) -> None:
 def is_refused() -> bool:
     """Whether tlsdump ends as it must, and prints nothing, if a request for memory is refused."""
     with tempfile.TemporaryDirectory() as folder:
-        shutil.copy(CRATES / "tlsdump" / "runs" / "key_package", folder)
-        pathlib.Path(folder, "key_package.stdout").touch()
+        shutil.copy(CRATES / "tlsdump" / "runs" / REQUESTS, folder)
+        pathlib.Path(folder, f"{REQUESTS}.stdout").touch()
         tried = cases.run("tlsdump", folder, flags=("--fail-alloc", str(REFUSED)))
-    if tried.names(NO_ROOM) == {"key_package"}:
+    if tried.names(NO_ROOM) == {REQUESTS}:
         return True
     print(tried.printed + tried.said)
     return False
+
+
+def with_one_refused(program: pathlib.Path, run: pathlib.Path) -> tuple[bool, str]:
+    """Whether a built program prints nothing but why it ended, if its first request for memory is refused, its second, its fourth and so
+    on, up to one that it doesn't make, and how it ended each time."""
+    ends: list[tuple[int, int, str, str]] = []
+    with tempfile.TemporaryDirectory() as room:
+        library = pathlib.Path(room, "refused_request.so")
+        source = TOP / "tools" / "data" / "refused_request.c"
+        subprocess.run(["cc", "-O2", "-fno-builtin", "-shared", "-fPIC", "-o", library, source], check=True)
+        for number in (1 << power for power in range(24)):
+            with run.open("rb") as given:
+                environment = {"LD_PRELOAD": str(library), "REFUSED": str(number)}
+                ran = subprocess.run([program], env=environment, stdin=given, capture_output=True, text=True, timeout=60)
+            ends.append((number, ran.returncode, ran.stdout, ran.stderr))
+            if ran.returncode == 0:
+                break
+    *refused, (_, *last) = ends
+    are_so = all(not printed and (status, said) in AFTER_REFUSAL for _, status, printed, said in refused)
+    is_whole = last == [0, run.with_suffix(".stdout").read_text(encoding="utf-8"), ""]
+    return are_so and is_whole and len(refused) >= LEAST_REFUSALS, "\n".join(map(str, ends))
 
 
 def as_stored(program: str, runs: dict[str, int]) -> int:
@@ -191,6 +224,8 @@ def streams() -> collections.abc.Iterator[tuple[str, bool, str]]:
         make(runs)
         status, printed = built([], runs / "key_package", "/dev/full")
         yield "tlsdump, full", (status, printed.startswith("tlsdump: ")) == (NO_ROOM, True), printed
+        is_so, printed = with_one_refused(CRATES / "tlsdump" / "out" / "tlsdump", runs / REQUESTS)
+        yield "tlsdump, one request refused", is_so, printed
         for wanted, lines in ((1, rejections.REJECTIONS), (2, UNREAD)):
             runs_so = {name for name, status in STATUS["tlsdump"].items() if status == wanted}
             assert set(lines) == runs_so, f"no line for each run with status {wanted}"
