@@ -4,12 +4,17 @@
 OWN has what `tls_codec_bench run` printed, CRATE what a program over the Rust crate printed: a line for each case, its name,
 the bytes, and the nanoseconds of each call, with tabs between. OWN has validation and views last, which the crate doesn't have. A file
 may have the lines of several runs: the lowest figure of each is taken. Rows of ROUGH (lib/figures.py) aren't drawn."""
+from __future__ import annotations
+
 import html
 import math
 import sys
 
 from lib import libraries
 from lib.figures import ROUGH
+
+# The cases of a file by their names: the bytes, and the nanoseconds of each call.
+Cases = dict[str, tuple[int, list[float]]]
 
 CALLS = ("encode", "into", "slice", "reader")
 LEAST, MOST = 0.008, 2.5  # the ends of the scale
@@ -37,18 +42,21 @@ text { font: 13px -apple-system, "Segoe UI", "Noto Sans", Helvetica, Arial, sans
 """
 
 
-def lowest(path):
-    rows = {}
-    for line in open(path, encoding="utf-8"):
-        part = line.rstrip("\n").split("\t")
-        if 6 <= len(part) <= 8:
-            figures = [float(x) for x in part[2:]]
-            old = rows.get(part[0])
-            rows[part[0]] = (int(part[1]), [min(p) for p in zip(old[1], figures)] if old else figures)
+def lowest(path: str) -> Cases:
+    """The cases of a file, with the lowest figure of each call."""
+    rows: Cases = {}
+    with open(path, encoding="utf-8") as lines:
+        for line in lines:
+            part = line.rstrip("\n").split("\t")
+            if 6 <= len(part) <= 8:
+                figures = [float(x) for x in part[2:]]
+                old = rows.get(part[0])
+                rows[part[0]] = (int(part[1]), [min(p) for p in zip(old[1], figures)] if old else figures)
     return rows
 
 
-def drawing(own, crate):
+def drawing(own: Cases, crate: Cases) -> str:
+    """The picture: a bar for each case and call, from 1 to its share of the crate's time."""
     names = [name for name in own if name in crate and name not in ROUGH and not name.startswith("copy")]
     width, height = NAMES + 4 * (PANEL + GAP) + 8, TOP + ROW * len(names) + 14
     out = [
@@ -60,10 +68,10 @@ def drawing(own, crate):
         '<text x="12" y="40" class="soft">to the left of 1: faster</text>',
     ]
 
-    def line(x, kind):
+    def line(x: float, kind: str) -> None:
         out.append(f'<line x1="{x:.1f}" y1="{TOP - 6}" x2="{x:.1f}" y2="{height - 12}" class="{kind}"/>')
 
-    def text(x, y, words, kind="", anchor="start"):
+    def text(x: float, y: float, words: str, kind: str = "", anchor: str = "start") -> None:
         out.append(f'<text x="{x:.1f}" y="{y:.1f}" class="{kind}" text-anchor="{anchor}">{html.escape(words)}</text>')
 
     for row, name in enumerate(names):
@@ -71,7 +79,7 @@ def drawing(own, crate):
     for call, title in enumerate(CALLS):
         left = NAMES + call * (PANEL + GAP)
 
-        def at(ratio):
+        def at(ratio: float) -> float:
             share = math.log(min(max(ratio, LEAST), MOST) / LEAST) / math.log(MOST / LEAST)
             return left + share * PANEL
 
@@ -88,7 +96,8 @@ def drawing(own, crate):
     return "\n".join(out + ["</svg>", ""])
 
 
-def table(own, crate):
+def table(own: Cases, crate: Cases) -> None:
+    """Prints the table of BENCHMARKS.md."""
     copies = {size: figures for name, (size, figures) in own.items() if name.startswith("copy")}
     print("| Case | Bytes | Plain copy: new, reused | Encode | Into a vector | Slice | Reader | Validated | Viewed |")
     print("|---|---|---|---|---|---|---|---|---|")
@@ -104,7 +113,7 @@ def table(own, crate):
         print(f"| `{name}` | {size} | {copied} | " + " | ".join(cells) + " |")
 
 
-def main():
+def main() -> None:
     own, crate = lowest(sys.argv[1]), lowest(sys.argv[2])
     (libraries.TOP / "docs" / "benchmarks.svg").write_text(drawing(own, crate), encoding="utf-8")
     table(own, crate)

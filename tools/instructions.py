@@ -6,6 +6,8 @@ that are timed took, with all that they call, by how often they were called. Wit
 both and their ratio. What malloc takes is in it and depends on what was freed before, and the C library copies by one loop or
 another: compare two builds with --same-calls, which puts those of data/same_calls.c (by cc) in their place. A minute a program.
 """
+from __future__ import annotations
+
 import collections
 import os
 import pathlib
@@ -20,9 +22,10 @@ CALLS = ("encode", "encode_into", "decode_slice", "decode_reader", "decode_outsi
 TIMED = re.compile(r"tls_codec_bench::calls::(\w+)::")
 
 
-def counted(path):
-    """For each timed call of one row: how often it was called, and the instructions of all its calls."""
-    found, callee, number = collections.defaultdict(lambda: [0, 0]), "", None
+def counted(path: pathlib.Path) -> dict[str, float]:
+    """For each timed call of one row: the instructions of one call."""
+    found: dict[str, list[int]] = collections.defaultdict(lambda: [0, 0])
+    callee, number = "", None
     for line in path.read_text().splitlines():
         if line.startswith("cfn="):
             callee = line[4:]
@@ -37,7 +40,7 @@ def counted(path):
     return {call: cost / number for call, (number, cost) in found.items()}
 
 
-def with_same_calls(room):
+def with_same_calls(room: str) -> dict[str, str]:
     """The environment of a program that calls the functions of same_calls.c."""
     built = str(pathlib.Path(room, "same_calls.so"))
     source = str(TOP / "tools" / "data" / "same_calls.c")
@@ -45,7 +48,7 @@ def with_same_calls(room):
     return {**os.environ, "LD_PRELOAD": built}
 
 
-def rows(program, is_same):
+def rows(program: str, is_same: bool) -> dict[str, dict[str, float]]:
     """The instructions of each timed call, by the row's name."""
     names = subprocess.run(["nm", program], capture_output=True, text=True, check=True).stdout
     dumps = [f"--dump-after={it}" for it in re.findall(r" t (tls_codec_bench::figures::measure::<.*>)$", names, re.M)]
@@ -57,7 +60,7 @@ def rows(program, is_same):
         return {name: counted(pathlib.Path(room, f"count.{at}")) for at, name in enumerate(lines, 1)}
 
 
-def main():
+def main() -> None:
     programs = [it for it in sys.argv[1:] if it != "--same-calls"]
     found = [rows(str(pathlib.Path(program).resolve()), len(programs) < len(sys.argv) - 1) for program in programs[:2]]
     for name, calls in found[0].items():

@@ -4,6 +4,8 @@
 Each colour is an attribute for light pages, and a style for dark ones. `tools/pictures.py FOLDER dark` writes the dark
 pictures with attributes alone, for a look at them by a program that knows no styles.
 """
+from __future__ import annotations
+
 import html
 import pathlib
 import sys
@@ -30,39 +32,57 @@ COLOURS = {
 
 
 class Picture:
-    def __init__(self, height, title, dark=False):
-        self.height, self.title, self.dark, self.parts = height, title, dark, []
+    """The parts of a picture, in the order in which they are drawn."""
 
-    def colour(self, role):
+    def __init__(self, height: int, title: str, dark: bool = False) -> None:
+        self.height, self.title, self.dark = height, title, dark
+        self.parts: list[str] = []
+
+    def colour(self, role: str) -> str:
+        """The colour of a role."""
         return COLOURS[role][1 if self.dark else 0]
 
-    def text(self, x, y, words, size=13, role="ink", anchor="middle", font=SANS, bold=False):
+    def text(
+        self,
+        x: float,
+        y: float,
+        words: str,
+        size: float = 13,
+        role: str = "ink",
+        anchor: str = "middle",
+        font: str = SANS,
+        bold: bool = False,
+    ) -> None:
+        """Words at a place, which is their middle, start or end."""
         weight = ' font-weight="600"' if bold else ""
         self.parts.append(
             f'<text class="f-{role}" x="{x}" y="{y}" font-family="{font}" font-size="{size}"{weight}'
             f' text-anchor="{anchor}" fill="{self.colour(role)}">{html.escape(words)}</text>'
         )
 
-    def box(self, x, y, width, height, role="plain", round=3):
+    def box(self, x: float, y: float, width: float, height: float, role: str = "plain", radius: int = 3) -> None:
+        """A box with round corners."""
         self.parts.append(
-            f'<rect class="f-{role} s-line" x="{x}" y="{y}" width="{width}" height="{height}" rx="{round}"'
+            f'<rect class="f-{role} s-line" x="{x}" y="{y}" width="{width}" height="{height}" rx="{radius}"'
             f' fill="{self.colour(role)}" stroke="{self.colour("line")}"/>'
         )
 
-    def line(self, x1, y1, x2, y2, role="line", width=1.5, dashed=False):
+    def line(self, x1: float, y1: float, x2: float, y2: float, role: str = "line", width: float = 1.5, dashed: bool = False) -> None:
+        """A line from one place to another."""
         dash = ' stroke-dasharray="5 4"' if dashed else ""
         self.parts.append(
             f'<line class="s-{role}" x1="{x1}" y1="{y1}" x2="{x2}" y2="{y2}" stroke="{self.colour(role)}"'
             f' stroke-width="{width}"{dash}/>'
         )
 
-    def bracket(self, x1, x2, y, tick, role="line"):
+    def bracket(self, x1: float, x2: float, y: float, tick: float, role: str = "line") -> None:
         """A line from x1 to x2 with ends that point by `tick`."""
         self.line(x1, y, x2, y, role)
         self.line(x1, y, x1, y + tick, role)
         self.line(x2, y, x2, y + tick, role)
 
-    def svg(self):
+    def svg(self) -> str:
+        """The picture's file."""
         style = " ".join(
             f".f-{role} {{ fill: {dark} }} .s-{role} {{ stroke: {dark} }}" for role, (_, dark) in COLOURS.items()
         )
@@ -76,7 +96,7 @@ class Picture:
         )
 
 
-def message(dark):
+def message(dark: bool) -> Picture:
     """The worked `Log` of tls_codec_vectors, byte by byte."""
     p = Picture(272, "The bytes of a message, with its lengths", dark)
     cell, left, top = 48, 24, 96
@@ -85,10 +105,10 @@ def message(dark):
         p.box(left + at * cell, top, cell, 36, role)
         p.text(left + at * cell + cell / 2, top + 24, byte, 16, font=MONO)
 
-    def span(first, last):
+    def span(first: int, last: int) -> tuple[int, int]:
         return left + first * cell + 4, left + (last + 1) * cell - 4
 
-    def centre(first, last):
+    def centre(first: int, last: int) -> float:
         return left + (first + last + 1) * cell / 2
 
     p.text(WIDTH / 2, 26, "Log { id: [ab], leaves: [Leaf { code: 1, name: [07] }], last: Some(Jump(5)) }", 13, font=MONO)
@@ -116,7 +136,7 @@ def message(dark):
     return p
 
 
-def limits(dark):
+def limits(dark: bool) -> Picture:
     """Nested declared lengths: why the paths name different errors."""
     p = Picture(352, "Nested declared lengths, and what a slice and a source see", dark)
     cell, left, top = 64, 40, 124
@@ -128,7 +148,7 @@ def limits(dark):
         p.text(left + at * cell + cell / 2, top + 25, byte, 17, font=MONO)
         p.text(left + at * cell + cell / 2, top + 54, labels.get(at, ""), 11, "soft")
 
-    def x(at):
+    def x(at: int) -> int:
         return left + at * cell
 
     p.text(left, 26, "Vec<Vec<u16>>", 14, anchor="start", font=MONO, bold=True)
@@ -157,9 +177,9 @@ def limits(dark):
     return p
 
 
-def sections():
+def sections() -> list[tuple[str, list[str]]]:
     """The sections of crates.txt: each heading with its crates, in their order."""
-    found = []
+    found: list[tuple[str, list[str]]] = []
     for line in (TOP / "crates.txt").read_text().splitlines():
         if line.startswith("# "):
             found.append((line[2:], []))
@@ -168,12 +188,12 @@ def sections():
     return found
 
 
-def crates(dark):
+def crates(dark: bool) -> Picture:
     """All crates, in the sections of crates.txt: an arrow leads to what a section uses."""
     library, messages, generator, programs, tests, benchmark = sections()
     p = Picture(500, "All crates, in six groups, with what each group uses", dark)
 
-    def group(x, y, width, section, columns, role="plain"):
+    def group(x: int, y: int, width: int, section: tuple[str, list[str]], columns: int, role: str = "plain") -> int:
         """A box with the names of a section's crates, in this many columns; returns its height."""
         heading, names = section
         rows = -(-len(names) // columns)
@@ -185,7 +205,7 @@ def crates(dark):
             p.text(x + 10 + column * (width - 10) / columns, y + 36 + 17 * row, name, 11, anchor="start", font=MONO)
         return height
 
-    def arrow(x1, y1, x2, y2):
+    def arrow(x1: int, y1: int, x2: int, y2: int) -> None:
         p.line(x1, y1, x2, y2, "ink")
         across = 1 if x2 > x1 else -1
         if y1 == y2:
@@ -227,7 +247,7 @@ def crates(dark):
     return p
 
 
-def tlsdump(dark):
+def tlsdump(dark: bool) -> Picture:
     """A terminal with a stored run of tlsdump, and with one that is rejected."""
     folder = TOP / "crates" / "tlsdump" / "runs"
     shown = (folder / "private_message.stdout").read_text().splitlines()
@@ -249,7 +269,7 @@ def tlsdump(dark):
 PICTURES = {"message.svg": message, "limits.svg": limits, "crates.svg": crates, "tlsdump.svg": tlsdump}
 
 
-def main(folder=TOP / "docs", colours="light"):
+def main(folder: str | pathlib.Path = TOP / "docs", colours: str = "light") -> None:
     for name, draw in PICTURES.items():
         (pathlib.Path(folder) / name).write_text(draw(colours == "dark").svg())
 

@@ -133,8 +133,8 @@ WRITES = "to_folder"
 REQUESTS = "key_package"
 REFUSED = 1000
 NO_ROOM = 3
-# The status and what standard error has after a refused request: one of the program's own, one for its arguments, one of `clap`, which reads
-# them.
+# The status and what standard error has after a refused request: one of the program's own, one for its arguments, or one of `clap`, which
+# reads them.
 AFTER_REFUSAL = {
     (NO_ROOM, "tlsdump: memory allocation failed\n"),
     (NO_ROOM, "tlsdump: out of memory\n"),

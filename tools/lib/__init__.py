@@ -1,4 +1,6 @@
-"""What the scripts in tools/ import. No module here imports a script.
+"""What the scripts in tools/ import. No module here imports a script (check_pages.py).
+
+All files are UTF-8. .ci/run and quick set PYTHONUTF8; without it Python reads files so in the locale C, and in each one of UTF-8.
 
 - The repository and what is built of it: libraries (folders, crates), cases (`rt try --cases`), generated (runs of `tlsgen`), edits and
   verdicts (wrong bodies).
