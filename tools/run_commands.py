@@ -91,7 +91,8 @@ def selftest() -> list[str]:
 def main() -> int:
     files = [it.relative_to(TOP).as_posix() for it in PAGES]
     pages = [it for it in sys.argv[1:] or files if has_commands(it)]
-    with concurrent.futures.ThreadPoolExecutor(4) as pool:
+    # (two builds take the memory that .ci/run has for a script)
+    with concurrent.futures.ThreadPoolExecutor(2) as pool:
         ended = list(pool.map(results, pages))
     failed = selftest()
     passed = sum(count for count, _ in ended) + (not failed)
