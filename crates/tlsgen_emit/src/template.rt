@@ -29,7 +29,7 @@ impl Holes {
         }
     }
 
-    /// Says what stands for a hole, where nothing did.
+    /// Sets what stands for a hole. Of two texts for one word the first counts.
     pub fn set(&mut self, word: &'static str, text: String) -> Result<(), AllocError>
         ensures { OnOk result
             (self.new.all.items ≡ self.old.all.items ++ record { word = word.entry; text = text } ∷ []) }
@@ -38,7 +38,7 @@ impl Holes {
         Ok(())
     }
 
-    /// Says what stands for holes, where nothing did.
+    /// Sets what stands for holes, as [`set`](Holes::set) does.
     pub fn set_all(
         &mut self,
         alloc: Global,
@@ -50,7 +50,7 @@ impl Holes {
         Ok(())
     }
 
-    /// Says what stands for holes, where nothing did: the texts of these templates, each over the holes before it.
+    /// Sets the texts of these templates for holes, each filled by the holes before it.
     pub fn set_each(
         &mut self,
         alloc: Global,
@@ -62,7 +62,7 @@ impl Holes {
         Ok(())
     }
 
-    /// Says that a number stands for a hole, where nothing did.
+    /// Sets a number for a hole.
     pub fn set_number(
         &mut self,
         alloc: Global,
@@ -72,7 +72,7 @@ impl Holes {
         self.set(word, format!(in alloc; "{number}")?)
     }
 
-    /// Says what these say, where nothing did.
+    /// Sets those of `other` that aren't set here.
     pub fn set_as(&mut self, other: &Holes) -> Result<(), AllocError> {
         for hole in &other.all {
             if !self.has(hole.word) {

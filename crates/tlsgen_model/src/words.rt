@@ -190,11 +190,12 @@ static MODULES: [&str; 11] = [
     "tls_codec_views",
 ];
 
-static TYPES: [&str; 125] = [
+static TYPES: [&str; 131] = [
     "Abort",
     "AllocError",
     "AllocFailed",
     "Always",
+    "AnyOf",
     "Box",
     "By",
     "ByRef",
@@ -210,8 +211,10 @@ static TYPES: [&str; 125] = [
     "ByRefIn",
     "ByRefParts",
     "ByRefThen",
+    "ByRefWhen",
     "Case",
     "Cases",
+    "Choice",
     "ChoiceFor",
     "Chosen",
     "Clone",
@@ -243,6 +246,7 @@ static TYPES: [&str; 125] = [
     "HostRuntime",
     "Into",
     "IntoIterator",
+    "Is",
     "IsTrue",
     "Iterator",
     "Keyed",
@@ -252,6 +256,7 @@ static TYPES: [&str; 125] = [
     "MatchOption",
     "MatchResult",
     "None",
+    "Numbered",
     "Ok",
     "Option",
     "Or",
@@ -315,6 +320,7 @@ static TYPES: [&str; 125] = [
     "ValidateFor",
     "ValidateKeyed",
     "Vec",
+    "When",
     "Within",
 ];
 

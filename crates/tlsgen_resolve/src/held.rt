@@ -49,7 +49,7 @@ pub fn part_of(member: &ResolvedMember) -> Result<TagPart, AllocError> {
 }
 
 impl<'a> Resolver<'a> {
-    /// That a field before decides parts by a tag. It holds the tag then, and so do the structs on the way to that.
+    /// Records that an earlier field decides parts by a tag. That field, and each struct from it to the tag, holds the tag then.
     pub fn decided_by(
         &mut self,
         sequence: &Sequence<'a>,
@@ -66,7 +66,7 @@ impl<'a> Resolver<'a> {
         }))
     }
 
-    /// That a field is decided by one before it, if it is.
+    /// The earlier field that decides this one, if one does; recorded as by [`decided_by`](Resolver::decided_by).
     pub fn decided_before(
         &mut self,
         sequence: &Sequence<'a>,

@@ -1,4 +1,4 @@
-//! What a program reads that shows messages: an input of limited size, as a hex text or as bytes.
+//! What a program reads that shows messages: an input of limited size, as a hex text.
 //!
 //! - [`text`]: [`read_text`](text::read_text), all that an input gives; [`decode`](text::decode), the bytes that its
 //!   hex stands for.

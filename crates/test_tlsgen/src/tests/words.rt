@@ -17,7 +17,7 @@ static KEYWORDS: [&str; 57] = [
 ];
 
 // The primitive types, and the names of Rust's prelude and of the library that written code uses.
-static TYPES: [&str; 61] = [
+static TYPES: [&str; 67] = [
     "bool",
     "char",
     "str",
@@ -76,6 +76,12 @@ static TYPES: [&str; 61] = [
     "Read",
     "Global",
     "AllocError",
+    "AnyOf",
+    "ByRefWhen",
+    "Choice",
+    "Is",
+    "Numbered",
+    "When",
     "std",
     "core",
     "alloc",
