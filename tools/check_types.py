@@ -8,8 +8,8 @@ too: such a type has no format but one for each context, so its line is one of `
 from a slice, and each of `tls_codec_cases`, is validated by an impl in `tls_codec_validate`, without a context or in one.
 Each has a row in docs/API.md, with its crate and its traits, and so have the types of std that `tls_codec_base` gives them to;
 each name there is such a type's. What it stands for and its format there are in words of its lines of `Means`, or in short ones
-(SHORT_FOR). Each variant of `Error` is among the words for contracts, and each line that exports names can be read. Before that each check
-is tried on a type that lacks something. Prints what is missing; the last line is 'N passed, N failed', a type each.
+(SHORT_FOR). Each variant of `Error` is among the words for contracts, and each line that exports names can be read. No type that generated
+code imports may be the name of one in a text. Before that each check is tried on a type that lacks something. Prints what is missing; the last line is 'N passed, N failed', a type each.
 """
 from __future__ import annotations
 
@@ -188,6 +188,14 @@ def errors_lacking(words: str) -> Iterator[str]:
             yield f"specs/Errors.antt of tls_codec: no {name}"
 
 
+def not_reserved(words: str) -> Iterator[str]:
+    """The types that generated code imports (vocabulary.rt of tlsgen_emit), and that a type of a text may be called by this text of words.rt."""
+    reserved = set(re.findall(r'"(\w+)"', words))
+    for name in re.findall(r'"([A-Z]\w*)"', (CRATES / "tlsgen_emit/src/vocabulary.rt").read_text()):
+        if name not in reserved:
+            yield f"words.rt of tlsgen_model: no {name}, which generated code imports"
+
+
 def selftest(types: str, equality: str, page: list[Row]) -> Iterator[str]:
     """The planted faults that no check finds, each in a type that has none otherwise."""
     name, traits = "TlsVarInt", {"Size", "Serialize", "SerializeBytes", "Deserialize", "DeserializeBytes", "PartialEq"}
@@ -203,6 +211,7 @@ def selftest(types: str, equality: str, page: list[Row]) -> Iterator[str]:
         "another meaning": unlike(Row({name}, "base", {"S"}, "`trees x`"), meanings(types)),
         "another format": unlike(Row({name}, "base", {"S"}, "", "`number_format k`, k bytes"), meanings(types)),
         "an error": errors_lacking("EndOfStream"),
+        "a name that generated code imports": not_reserved('"Choice" "Size"'),
         "a line of exports": exports_unread("pub use tls_codec_base::*;\n"),
     }
     yield from (f"selftest: not found: {fault}" for fault, found in planted.items() if not list(found))
@@ -225,7 +234,8 @@ def main() -> int:
     validated = traits_of("tls_codec_validate")
     page, decided = rows(), PAGE.read_text().split("\n## In a context\n")[1].split("\n## ")[0]
     types_of, means = set(with_format(by_crate)), meanings(types)
-    results = [report(selftest(types, equality, page)), *(report([*without_type(row, types_of), *unlike(row, means)]) for row in page)]
+    words = (CRATES / "tlsgen_model/src/words.rt").read_text()
+    results = [report(selftest(types, equality, page)), report(not_reserved(words)), *(report([*without_type(row, types_of), *unlike(row, means)]) for row in page)]
     for crate, name in names:
         # (an impl for a type of wire is in base)
         traits = by_crate[crate].get(name, set()) | by_crate["tls_codec_base"].get(name, set())
