@@ -114,6 +114,9 @@ def table(own: Cases, crate: Cases) -> None:
 
 
 def main() -> None:
+    if len(sys.argv) != 3:
+        print(__doc__, file=sys.stderr)
+        sys.exit(2)
     own, crate = lowest(sys.argv[1]), lowest(sys.argv[2])
     (libraries.TOP / "docs" / "benchmarks.svg").write_text(drawing(own, crate), encoding="utf-8")
     table(own, crate)

@@ -56,6 +56,9 @@ def counted(program: pathlib.Path, row: pathlib.Path, call: str) -> int:
 def main() -> int:
     archives = pathlib.Path(sys.argv[1]) if sys.argv[1:] else TOP / "c" / "out"
     built = [archives / exported.archive_of(it) for it in exported.libraries()]
+    if not all(it.is_file() for it in built):
+        print(f"not all archives are in {archives}: run tools/archives.py", file=sys.stderr)
+        return 2
     for it in built:
         print(f"{it.name}: {size(it)} bytes")
     in_rattle = instructions.rows(str(pathlib.Path(sys.argv[2]).resolve()), False) if sys.argv[2:] else {}

@@ -62,6 +62,9 @@ def rows(program: str, is_same: bool) -> dict[str, dict[str, float]]:
 
 def main() -> None:
     programs = [it for it in sys.argv[1:] if it != "--same-calls"]
+    if not programs:
+        print(__doc__, file=sys.stderr)
+        sys.exit(2)
     found = [rows(str(pathlib.Path(program).resolve()), len(programs) < len(sys.argv) - 1) for program in programs[:2]]
     for name, calls in found[0].items():
         costs_of_calls = []
