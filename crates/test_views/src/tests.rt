@@ -1,4 +1,6 @@
 //! What is borrowed from bytes that were written by hand.
+mod parted;
+
 use std::fmt::Debug;
 use std::process::Abort;
 use std::test::Fail;
