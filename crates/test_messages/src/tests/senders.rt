@@ -1,10 +1,11 @@
 //! Who sent a public message, and what, as docs/MLS.md reads them.
-use crate::tests::mls_messages::{COMMIT, PRIVATE_MESSAGE};
+use crate::tests::mls_messages::{COMMIT, KEY_PACKAGE, PRIVATE_MESSAGE};
 use crate::tests::same;
 use mls::{
     Commit, FramedContent, FramedContentBody, FramedContentView, MLSMessage, MLSMessageBody,
     MLSMessageBodyView, MLSMessageView, Sender, SenderData, SenderView,
 };
+use mls_tree::{Node, RatchetTree};
 use std::alloc::Global;
 use std::test::Fail;
 use tls_codec::{DeserializeBytes, Error};
@@ -48,6 +49,15 @@ fn leaf_of(content: &FramedContent) -> Option<u32> {
     }
 }
 
+// The key of a leaf of the tree, which is none if the entry is blank or isn't there.
+fn key_of(tree: &RatchetTree, leaf_index: u32) -> Option<&[u8]> {
+    let entry = (leaf_index as usize).saturating_mul(2);
+    match tree.ratchet_tree.get(entry) {
+        Some(Some(Node::Leaf(leaf))) => Some(leaf.signature_key.as_slice()),
+        _ => None,
+    }
+}
+
 // The commit that a message's content is.
 fn commit_of(content: FramedContentBody) -> Option<Commit> {
     match content {
@@ -87,4 +97,17 @@ fn a_sender_who_was_decrypted(rt: HostRuntime) {
     same(&rt, private_sender_of(alloc, &plaintext), Ok(2));
     let short = private_sender_of(alloc, &plaintext[..11]);
     same(&rt, short, Err(Error::EndOfStream));
+}
+
+// The tree's first leaf and its parent are blank, and the second is that of the key package.
+#[test]
+fn the_key_of_a_leaf(rt: HostRuntime) -> Result<(), Fail> {
+    let alloc = rt.alloc();
+    let mut bytes = [63u8, 0, 0, 1, 1].to_vec(alloc)?;
+    bytes.extend_from_slice(&KEY_PACKAGE[11..70])?;
+    let tree = RatchetTree::tls_deserialize_exact_bytes(alloc, &bytes)?;
+    same(&rt, key_of(&tree, 1), Some([0xf5u8, 0xf6].as_slice()));
+    same(&rt, key_of(&tree, 0), None);
+    same(&rt, key_of(&tree, 2), None);
+    Ok(())
 }
