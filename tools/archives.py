@@ -1,11 +1,11 @@
 #!/usr/bin/env python3
 """archives.py [--shared] [FOLDER [TARGET]]: proves the static libraries and puts their archives into a folder, c/out if none is given.
 
-They are built over the libraries that `rt ci` left in crates/*/out/rlib. Where some aren't there, `rt lib` first proves and builds all
-those below an archive, which takes longer. Beside them is libtls_codec_heap.a, which decoders need: malloc and free by Rattle's names for
-them. And tls_codec.version has the version of the headers, so that a mix with those of another commit is noticed. With --shared the C
-compiler links all of them to libtls_codec.so, for Python. TARGET is x86_64-unknown-linux-gnu if none is given. For
-aarch64-unknown-linux-gnu the kit has no such heap, and there is no --shared.
+They are built over the libraries that `rt ci` left in crates/*/out/rlib. Where some aren't there, or a file that they are proved from is
+newer, `rt lib` first proves and builds all those below an archive, which takes longer. Beside them is libtls_codec_heap.a, which decoders
+need: malloc and free by Rattle's names for them. And tls_codec.version has the version of the headers, so that a mix with those of another
+commit is noticed. With --shared the C compiler links all of them to libtls_codec.so, for Python. TARGET is x86_64-unknown-linux-gnu if none
+is given. For aarch64-unknown-linux-gnu the kit has no such heap, and there is no --shared.
 """
 from __future__ import annotations
 
@@ -24,16 +24,32 @@ TARGET = "x86_64-unknown-linux-gnu"
 # Up to which cost LLVM copies a function into its callers; its own bound is 225. Messages of one archive share the validators of their
 # parts, and by that bound most of these stay functions of their own (docs/DECISIONS.md, "How are the archives compiled?").
 INLINED = 1500
+# The folders of a crate that its proof is read from.
+SOURCES = ("src", "specs", "proofs", "c")
 
 
 class NotBuilt(Exception):
     """The output, where no archive was built."""
 
 
+def is_stale(libraries: Libraries, crate: str) -> bool:
+    """Whether a file that the library is proved from is newer than it, as after `git pull`.
+
+    The time is that of the library's folder, which `rt ci` makes anew. Its files may be other names of those that an earlier run kept.
+    """
+    sources = [it for part in SOURCES for it in (CRATES / crate / part).rglob("*") if it.is_file()]
+    built = libraries.rlib(crate).stat().st_mtime_ns
+    return any(it.stat().st_mtime_ns > built for it in [TOP / "crates.txt", *sources])
+
+
 def is_left_by_ci(libraries: Libraries, crate: str) -> bool:
-    """Whether `rt ci` built all the libraries below a static one. A library that another command built has a stamp, and fits no others."""
-    stamps = [(libraries.rlib(it).parent / "stamp").is_file() for it in libraries.below(crate)]
-    return not libraries.lacking(crate) and not any(stamps)
+    """Whether `rt ci` built all the libraries below a static one, from the files that are there now.
+
+    A library that another command built has a stamp, and fits no others.
+    """
+    below = libraries.below(crate)
+    stamps = [(libraries.rlib(it).parent / "stamp").is_file() for it in below]
+    return not libraries.lacking(crate) and not any(stamps) and not any(is_stale(libraries, it) for it in below)
 
 
 def ran(words: list[str], crate: str) -> None:
