@@ -45,7 +45,7 @@ def rejection(validators: Validators, name: str, data: bytes) -> str:
     else:
         return "no message of this name is known"
     try:
-        validators.whole(message, data)
+        validators.validate(message, data)
     except Rejected as rejected:
         return f"{rejected} of {len(data)}"
     return ""

@@ -220,7 +220,7 @@ pub mod tls13 {
         #[repr(C)]
         #[derive(Clone, Copy, Default)]
         pub struct TLSPlaintextFields {
-            pub kind: Span,
+            pub r#type: Span,
             pub legacy_record_version: Span,
             pub fragment: Span,
         }
@@ -859,7 +859,7 @@ pub mod tls13 {
     #[derive(Clone, Copy, PartialEq, Eq, Debug)]
     pub struct TLSPlaintextFields<'a> {
         /// `ContentType type;`
-        pub kind: &'a [u8],
+        pub r#type: &'a [u8],
         /// `ProtocolVersion legacy_record_version;`
         pub legacy_record_version: &'a [u8],
         /// `opaque fragment[TLSPlaintext.length];`
@@ -873,7 +873,7 @@ pub mod tls13 {
         let outcome = unsafe { foreign::tls13_tls_plaintext_locate(bytes.as_ptr(), bytes.len(), &mut found) };
         let (_, rest) = split_as(bytes, outcome)?;
         let fields = TLSPlaintextFields {
-            kind: found.kind.of(bytes),
+            r#type: found.r#type.of(bytes),
             legacy_record_version: found.legacy_record_version.of(bytes),
             fragment: found.fragment.of(bytes),
         };

@@ -46,7 +46,7 @@ fields! {
         certificate_verify locate_certificate_verify: algorithm signature;
         new_session_ticket locate_new_session_ticket: ticket_lifetime ticket_age_add ticket_nonce ticket extensions;
         key_update locate_key_update: request_update;
-        tls_plaintext locate_tls_plaintext: kind legacy_record_version fragment;
+        tls_plaintext locate_tls_plaintext: r#type legacy_record_version fragment;
         tls_ciphertext locate_tls_ciphertext: opaque_type legacy_record_version encrypted_record;
         alert locate_alert: level description;
     }
