@@ -183,7 +183,7 @@ def vectors(room: Room) -> None:
 
 
 def mix(room: Room) -> None:
-    """Archives of other headers: Rust and Python fail, and CMake warns."""
+    """Archives of other headers: Rust, Python and CMake fail."""
     folder = room.folder / "mix"
     shutil.copytree(room.archives, folder)
     shutil.copy(room.shared_object(), folder)
@@ -192,11 +192,13 @@ def mix(room: Room) -> None:
     env["PYTHONPATH"] = str(PYTHON)
     room.run(call, env=env)
     (folder / exports.MARK).write_text("0.1.0 0\n")
-    for words, status in ((call, 1), (["cargo", "check", "--offline", "--quiet"], 101)):
-        if b"0.1.0 0" not in room.run(words, status=status, cwd=TOP / "rust", env=env):
+    refused = [(call, 1), (["cargo", "check", "--offline", "--quiet"], 101)]
+    if shutil.which("cmake"):
+        refused.append((["cmake", "-S", C, "-B", room.folder / "unbuilt", f"-DTLS_CODEC_ARCHIVES={folder}"], 1))
+    for words, status in refused:
+        # CMake breaks lines
+        if b"0.1.0 0" not in b" ".join(room.run(words, status=status, cwd=TOP / "rust", env=env).split()):
             raise Failed(f"{words[0]} doesn't say which archives it found")
-    if shutil.which("cmake") and b"0.1.0 0" not in room.run(["cmake", "-S", C, "-B", folder / "build", f"-DTLS_CODEC_ARCHIVES={folder}"]):
-        raise Failed("cmake doesn't warn")
 
 
 def cmake(room: Room) -> None:
