@@ -6,8 +6,8 @@ exports.py writes; an archive exports just what its header has, and needs nothin
 Python module answer the rows of `test_outcome`, of `test_places` and of c/tests/*.tsv, which name each call, and C those of captured
 messages too, and whatever bit of a row is turned; each request for memory is refused in turn; validators and decoders are compared for
 three seconds; the examples run, and the commands of the READMEs in c/, rust/ and python/; the C of docs/CALLERS.md is compiled, and
-python/vectors.py reads rows; archives of other headers are noticed. `cc`, `c++`, `nm` and `cargo` have to be there. CMake, pkg-config and
-valgrind are tried where they are. Last 'N passed, N failed'.
+python/tests/vectors.py reads rows; archives of other headers are refused. `cc`, `c++`, `nm` and `cargo` have to be there. CMake,
+pkg-config and valgrind are tried where they are. Last 'N passed, N failed'.
 """
 from __future__ import annotations
 
@@ -173,7 +173,7 @@ def python(room: Room) -> None:
 def vectors(room: Room) -> None:
     """Rows as the MLS working group's test vectors have them; in a second vector a commit has a proposal whose type has no case."""
     path, whole = room.folder / "vectors.json", vector()
-    words = [sys.executable, PYTHON / "vectors.py", room.shared_object(), path]
+    words = [sys.executable, PYTHON / "tests" / "vectors.py", room.shared_object(), path]
     path.write_text(json.dumps([whole]))
     if room.run(words) != b"11 passed, 0 failed\n":
         raise Failed("messages that rows accept have another outcome")
