@@ -42,6 +42,14 @@ add_subdirectory({C} tls_codec)
 add_executable(one {C}/examples/boundary.c)
 target_link_libraries(one PRIVATE tls_codec::mls)
 """
+# One that finds what is installed, and links a decoder's archive too.
+FOUND = """\
+cmake_minimum_required(VERSION 3.16)
+project(found LANGUAGES C)
+find_package(tls_codec REQUIRED)
+add_executable(found {C}/tests/rows.c)
+target_link_libraries(found PRIVATE tls_codec::mls tls_codec::tls13 tls_codec::lengths tls_codec::mls_check tls_codec::tls13_check)
+"""
 # The files of rust/tests, and those that test nothing without the feature `check`.
 RUST_TESTS = ["places", "rows", "signed"]
 RUST_TESTS_OF_DECODERS = ["decoders"]
@@ -207,7 +215,7 @@ def cmake(room: Room) -> None:
     room.run(["cmake", "-S", C, "-B", build, *where])
     room.run(["cmake", "--build", build])
     room.run(["cmake", "--install", build])
-    lacking = {*os.listdir(room.archives), "pkgconfig"} - {SHARED} ^ set(os.listdir(installed / "lib"))
+    lacking = {*os.listdir(room.archives), "cmake", "pkgconfig"} - {SHARED} ^ set(os.listdir(installed / "lib"))
     if lacking or f"prefix={installed.resolve()}\n" not in (installed / "lib" / "pkgconfig" / "tls_codec.pc").read_text(encoding="utf-8"):
         raise Failed(f"of these files some aren't installed, or others are: {sorted(lacking)}")
     program, archive = room.folder / "installed_boundary", installed / "lib" / exported.archive_of("mls_c")
@@ -216,6 +224,12 @@ def cmake(room: Room) -> None:
         room.run([build / example], bytes.fromhex(COMMIT.read_text()))
     room.run([build / "hello"], hellos()[0][0])
     room.run([build / "rows", ROWS[1]])
+    user = room.folder / "found"
+    user.mkdir()
+    (user / "CMakeLists.txt").write_text(FOUND.format(C=C))
+    room.run(["cmake", "-S", user, "-B", user / "build", f"-DCMAKE_PREFIX_PATH={installed.resolve()}"])
+    room.run(["cmake", "--build", user / "build"])
+    room.run([user / "build" / "found", ROWS[1]])
 
 
 def cmake_of_one(room: Room) -> None:
