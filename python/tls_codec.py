@@ -2,9 +2,8 @@
 `tools/archives.py --shared` puts into c/out.
 
     validators = Validators("c/out/libtls_codec.so")
-    message = validators.whole("mls_key_package", data)
-    extensions = validators.fields("mls_key_package", message)["extensions"]
-    content = validators.fields("tls_codec_opaque_v", extensions)["content"]
+    fields = validators.locate("mls_key_package", data)
+    content = validators.locate("tls_codec_opaque_v", fields["extensions"])["content"]
     for extension in validators.elements("mls_extension", content): ...
 
 A number's field is its bytes: `int.from_bytes(fields["epoch"], "big")`. Bytes that are rejected raise `Rejected`, a `ValueError`. A
@@ -93,29 +92,36 @@ class Validators:
             raise Rejected(outcome.status, outcome.at, outcome.detail)
         return outcome
 
-    def split(self, message: str, data: Buffer) -> tuple[bytes, bytes]:
+    def validate_prefix(self, message: str, data: Buffer) -> tuple[bytes, bytes]:
         """The message that the bytes begin with, and the rest. The message is named as in the headers, without `_validate_prefix`."""
         data = plain(data)
         outcome = self.accepted(self.named(message, "_validate_prefix"), data)
         return data[: outcome.taken], data[outcome.taken :]
 
-    def whole(self, message: str, data: Buffer) -> bytes:
+    def validate(self, message: str, data: Buffer) -> bytes:
         """The message, if nothing comes after it."""
-        found, rest = self.split(message, data)
+        found, rest = self.validate_prefix(message, data)
         if rest:
             raise Rejected(STATUSES.index("TrailingData"), len(found))
         return found
 
-    def fields(self, message: str, data: Buffer) -> dict[str, bytes]:
-        """The fields of the message that the bytes begin with, by the names that its struct has in the headers, in that order.
+    def locate(self, message: str, data: Buffer, whole: bool = True) -> dict[str, bytes]:
+        """Validates the message, and returns its fields by the names that its struct has in the headers, in that order.
 
-        WITH_LENGTH of tls_codec_exports has those whose bytes begin with a length, such as a list's.
+        If it isn't to be the whole, other bytes may come after it. WITH_LENGTH of tls_codec_exports has the fields whose bytes begin with a
+        length, such as a list's.
         """
         call, data = self.named(message, "_locate"), plain(data)
         names = FIELDS[message]
         spans = (Span * len(names))()
-        self.accepted(call, data, spans)
+        outcome = self.accepted(call, data, spans)
+        if whole and outcome.taken != len(data):
+            raise Rejected(STATUSES.index("TrailingData"), outcome.taken)
         return {name: span.of(data) for name, span in zip(names, spans)}
+
+    def decode_check(self, message: str, data: Buffer) -> Outcome:
+        """What the decoder says: the status is 0 if the bytes begin with the message, which has `taken` bytes."""
+        return self.outcome_of(self.named(message, "_decode_check"), data)
 
     def elements(self, element: str, content: Buffer) -> Iterator[bytes]:
         """The elements of a list, from the bytes after its length: named as in the headers, without `_next`."""

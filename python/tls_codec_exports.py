@@ -6,7 +6,7 @@ import enum
 VERSION = "0.2.0"
 
 # What archives of this version and these headers have beside them.
-MARK = "0.2.0 4c6ad1ba4fcaf0c6"
+MARK = "0.2.0 2b9807c85a4ec5fa"
 
 # The names of the statuses, by their numbers.
 STATUSES = [
@@ -135,10 +135,10 @@ FIELDS = {
     "tls13_tls_plaintext": ["type", "legacy_record_version", "fragment"],
     "tls13_tls_ciphertext": ["opaque_type", "legacy_record_version", "encrypted_record"],
     "tls13_alert": ["level", "description"],
-    "mls_message": ["version", "wire_format", "message"],
+    "mls_message": ["version", "wire_format", "body"],
     "mls_public_message": ["content", "auth", "membership_tag"],
     "mls_private_message": ["group_id", "epoch", "content_type", "authenticated_data", "encrypted_sender_data", "ciphertext"],
-    "mls_framed_content": ["group_id", "epoch", "sender", "authenticated_data", "content_type", "content"],
+    "mls_framed_content": ["group_id", "epoch", "sender", "authenticated_data", "content_type", "body"],
     "mls_sender_data": ["leaf_index", "generation", "reuse_guard"],
     "mls_key_package": ["version", "cipher_suite", "init_key", "leaf_node", "extensions", "signature"],
     "mls_leaf_node": ["encryption_key", "signature_key", "credential", "capabilities", "leaf_node_source", "origin", "extensions", "signature"],
@@ -161,7 +161,7 @@ WITH_LENGTH = {
     "tls13_certificate": ["certificate_list"],
     "tls13_new_session_ticket": ["extensions"],
     "mls_public_message": ["auth", "membership_tag"],
-    "mls_framed_content": ["content"],
+    "mls_framed_content": ["body"],
     "mls_key_package": ["extensions"],
     "mls_leaf_node": ["origin", "extensions"],
     "mls_welcome": ["secrets"],

@@ -1,14 +1,16 @@
 #!/usr/bin/env python3
 """archives.py [--shared] [FOLDER [TARGET]]: proves the static libraries and puts their archives into a folder, c/out if none is given.
 
-They are built over the libraries that `rt ci` left in crates/*/out/rlib. Where some aren't there, `rt lib` first proves and builds all
-those below an archive, which takes longer. Beside them is libtls_codec_heap.a, which decoders need: malloc and free by Rattle's names for
-them. And tls_codec.version has the version of the headers, so that a mix with those of another commit is noticed. With --shared the C
-compiler links all of them to libtls_codec.so, for Python. TARGET is x86_64-unknown-linux-gnu if none is given. For
-aarch64-unknown-linux-gnu the kit has no such heap, and there is no --shared.
+They are built over the libraries that `rt ci` left in crates/*/out/rlib. Where some aren't there, or a file that they are proved from is
+newer, `rt lib` first proves and builds all those below an archive, which takes longer. Beside them is libtls_codec_heap.a, which decoders
+need: malloc and free by Rattle's names for them. And tls_codec.version has the version of the headers, so that a mix with those of another
+commit is noticed; tls_codec.built names the commit, the kit and the archives. With --shared the C compiler links all of them to
+libtls_codec.so, for Python. TARGET is x86_64-unknown-linux-gnu if none is given. For aarch64-unknown-linux-gnu the kit has no such heap,
+and there is no --shared.
 """
 from __future__ import annotations
 
+import hashlib
 import pathlib
 import shutil
 import subprocess
@@ -18,22 +20,40 @@ import tempfile
 import exports
 from lib.exported import HEAP, archive_of
 from lib.libraries import CRATES, TOP, Libraries
-from lib.shared_object import NotLinked, put_shared
+from lib.shared_object import SHARED, NotLinked, put_shared
 
 TARGET = "x86_64-unknown-linux-gnu"
 # Up to which cost LLVM copies a function into its callers; its own bound is 225. Messages of one archive share the validators of their
 # parts, and by that bound most of these stay functions of their own (docs/DECISIONS.md, "How are the archives compiled?").
 INLINED = 1500
+# What says from which commit the archives of a folder were built.
+BUILT = "tls_codec.built"
+# The folders of a crate that its proof is read from.
+SOURCES = ("src", "specs", "proofs", "c")
 
 
 class NotBuilt(Exception):
     """The output, where no archive was built."""
 
 
+def is_stale(libraries: Libraries, crate: str) -> bool:
+    """Whether a file that the library is proved from is newer than it, as after `git pull`.
+
+    The time is that of the library's folder, which `rt ci` makes anew. Its files may be other names of those that an earlier run kept.
+    """
+    sources = [it for part in SOURCES for it in (CRATES / crate / part).rglob("*") if it.is_file()]
+    built = libraries.rlib(crate).stat().st_mtime_ns
+    return any(it.stat().st_mtime_ns > built for it in [TOP / "crates.txt", *sources])
+
+
 def is_left_by_ci(libraries: Libraries, crate: str) -> bool:
-    """Whether `rt ci` built all the libraries below a static one. A library that another command built has a stamp, and fits no others."""
-    stamps = [(libraries.rlib(it).parent / "stamp").is_file() for it in libraries.below(crate)]
-    return not libraries.lacking(crate) and not any(stamps)
+    """Whether `rt ci` built all the libraries below a static one, from the files that are there now.
+
+    A library that another command built has a stamp, and fits no others.
+    """
+    below = libraries.below(crate)
+    stamps = [(libraries.rlib(it).parent / "stamp").is_file() for it in below]
+    return not libraries.lacking(crate) and not any(stamps) and not any(is_stale(libraries, it) for it in below)
 
 
 def ran(words: list[str], crate: str) -> None:
@@ -82,7 +102,25 @@ def put_heap(libraries: Libraries, folder: pathlib.Path) -> None:
 
 
 def put_mark(folder: pathlib.Path) -> None:
+    """Writes down which headers the archives are of, and what they were built from."""
+    (folder / BUILT).write_text(built_from(folder), encoding="utf-8")
     (folder / exports.MARK).write_text(f"{exports.mark()}\n", encoding="utf-8")
+
+
+def printed(*words: str) -> str:
+    """What a command prints; `unknown` if it fails, as git does where it isn't there or this is no clone."""
+    try:
+        return subprocess.run(words, cwd=TOP, stdin=subprocess.DEVNULL, capture_output=True, text=True, check=True).stdout.strip()
+    except (OSError, subprocess.CalledProcessError):
+        return "unknown"
+
+
+def built_from(folder: pathlib.Path) -> str:
+    """The commit, whether the files are those of it, the kit, and the SHA-256 of each archive, as `sha256sum -c` reads it."""
+    state = "with changes" if printed("git", "status", "--porcelain") else "clean"
+    lines = [f"# commit {printed('git', 'rev-parse', 'HEAD')}, {state}", f"# {printed('rt', 'version')}"]
+    archives = sorted([*folder.glob("libtls_codec*.a"), *folder.glob(SHARED)])
+    return "\n".join([*lines, *(f"{hashlib.sha256(it.read_bytes()).hexdigest()}  {it.name}" for it in archives)]) + "\n"
 
 
 def main() -> int:
@@ -94,7 +132,8 @@ def main() -> int:
         return 1
     folder.mkdir(parents=True, exist_ok=True)
     libraries = Libraries()
-    (folder / exports.MARK).unlink(missing_ok=True)
+    for it in (exports.MARK, BUILT):
+        (folder / it).unlink(missing_ok=True)
     try:
         if target == TARGET:
             put_heap(libraries, folder)

@@ -6,8 +6,8 @@ exports.py writes; an archive exports just what its header has, and needs nothin
 Python module answer the rows of `test_outcome`, of `test_places` and of c/tests/*.tsv, which name each call, and C those of captured
 messages too, and whatever bit of a row is turned; each request for memory is refused in turn; validators and decoders are compared for
 three seconds; the examples run, and the commands of the READMEs in c/, rust/ and python/; the C of docs/CALLERS.md is compiled, and
-python/vectors.py reads rows; archives of other headers are noticed. `cc`, `c++`, `nm` and `cargo` have to be there. CMake, pkg-config and
-valgrind are tried where they are. Last 'N passed, N failed'.
+python/tests/vectors.py reads rows; archives of other headers are refused. `cc`, `c++`, `nm` and `cargo` have to be there. CMake,
+pkg-config and valgrind are tried where they are. Last 'N passed, N failed'.
 """
 from __future__ import annotations
 
@@ -41,6 +41,14 @@ project(one LANGUAGES C)
 add_subdirectory({C} tls_codec)
 add_executable(one {C}/examples/boundary.c)
 target_link_libraries(one PRIVATE tls_codec::mls)
+"""
+# One that finds what is installed, and links a decoder's archive too.
+FOUND = """\
+cmake_minimum_required(VERSION 3.16)
+project(found LANGUAGES C)
+find_package(tls_codec REQUIRED)
+add_executable(found {C}/tests/rows.c)
+target_link_libraries(found PRIVATE tls_codec::mls tls_codec::tls13 tls_codec::lengths tls_codec::mls_check tls_codec::tls13_check)
 """
 # The files of rust/tests, and those that test nothing without the feature `check`.
 RUST_TESTS = ["places", "rows", "signed"]
@@ -173,7 +181,7 @@ def python(room: Room) -> None:
 def vectors(room: Room) -> None:
     """Rows as the MLS working group's test vectors have them; in a second vector a commit has a proposal whose type has no case."""
     path, whole = room.folder / "vectors.json", vector()
-    words = [sys.executable, PYTHON / "vectors.py", room.shared_object(), path]
+    words = [sys.executable, PYTHON / "tests" / "vectors.py", room.shared_object(), path]
     path.write_text(json.dumps([whole]))
     if room.run(words) != b"11 passed, 0 failed\n":
         raise Failed("messages that rows accept have another outcome")
@@ -183,7 +191,7 @@ def vectors(room: Room) -> None:
 
 
 def mix(room: Room) -> None:
-    """Archives of other headers: Rust and Python fail, and CMake warns."""
+    """Archives of other headers: Rust, Python and CMake fail."""
     folder = room.folder / "mix"
     shutil.copytree(room.archives, folder)
     shutil.copy(room.shared_object(), folder)
@@ -192,11 +200,13 @@ def mix(room: Room) -> None:
     env["PYTHONPATH"] = str(PYTHON)
     room.run(call, env=env)
     (folder / exports.MARK).write_text("0.1.0 0\n")
-    for words, status in ((call, 1), (["cargo", "check", "--offline", "--quiet"], 101)):
-        if b"0.1.0 0" not in room.run(words, status=status, cwd=TOP / "rust", env=env):
+    refused = [(call, 1), (["cargo", "check", "--offline", "--quiet"], 101)]
+    if shutil.which("cmake"):
+        refused.append((["cmake", "-S", C, "-B", room.folder / "unbuilt", f"-DTLS_CODEC_ARCHIVES={folder}"], 1))
+    for words, status in refused:
+        # CMake breaks lines
+        if b"0.1.0 0" not in b" ".join(room.run(words, status=status, cwd=TOP / "rust", env=env).split()):
             raise Failed(f"{words[0]} doesn't say which archives it found")
-    if shutil.which("cmake") and b"0.1.0 0" not in room.run(["cmake", "-S", C, "-B", folder / "build", f"-DTLS_CODEC_ARCHIVES={folder}"]):
-        raise Failed("cmake doesn't warn")
 
 
 def cmake(room: Room) -> None:
@@ -205,7 +215,7 @@ def cmake(room: Room) -> None:
     room.run(["cmake", "-S", C, "-B", build, *where])
     room.run(["cmake", "--build", build])
     room.run(["cmake", "--install", build])
-    lacking = {*os.listdir(room.archives), "pkgconfig"} - {SHARED} ^ set(os.listdir(installed / "lib"))
+    lacking = {*os.listdir(room.archives), "cmake", "pkgconfig"} - {SHARED} ^ set(os.listdir(installed / "lib"))
     if lacking or f"prefix={installed.resolve()}\n" not in (installed / "lib" / "pkgconfig" / "tls_codec.pc").read_text(encoding="utf-8"):
         raise Failed(f"of these files some aren't installed, or others are: {sorted(lacking)}")
     program, archive = room.folder / "installed_boundary", installed / "lib" / exported.archive_of("mls_c")
@@ -214,6 +224,12 @@ def cmake(room: Room) -> None:
         room.run([build / example], bytes.fromhex(COMMIT.read_text()))
     room.run([build / "hello"], hellos()[0][0])
     room.run([build / "rows", ROWS[1]])
+    user = room.folder / "found"
+    user.mkdir()
+    (user / "CMakeLists.txt").write_text(FOUND.format(C=C))
+    room.run(["cmake", "-S", user, "-B", user / "build", f"-DCMAKE_PREFIX_PATH={installed.resolve()}"])
+    room.run(["cmake", "--build", user / "build"])
+    room.run([user / "build" / "found", ROWS[1]])
 
 
 def cmake_of_one(room: Room) -> None:

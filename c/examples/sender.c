@@ -65,5 +65,5 @@ int main(void) {
   if (outcome.status != TLS_CODEC_ACCEPTED) return rejected("message", outcome);
   uint16_t wire_format = tls_codec_u16(bytes + fields.wire_format.offset);
   puts(wire_formats[wire_format]);
-  return wire_format == MLS_WIRE_FORMAT_PUBLIC_MESSAGE ? print_public_message(bytes + fields.message.offset, fields.message.size) : 0;
+  return wire_format == MLS_WIRE_FORMAT_PUBLIC_MESSAGE ? print_public_message(bytes + fields.body.offset, fields.body.size) : 0;
 }

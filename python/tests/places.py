@@ -17,9 +17,9 @@ def found(validators: Validators, name: str, data: bytes) -> tuple[list[bytes] |
         if name == "mls_message_wire_format":
             return validators.message_wire_format(data), (0, 0, 0)
         if name.endswith("_locate"):
-            return list(validators.fields(name.removesuffix("_locate"), data).values()), (0, 0, 0)
+            return list(validators.locate(name.removesuffix("_locate"), data, whole=False).values()), (0, 0, 0)
         if name.endswith("_validate_prefix"):
-            return [validators.split(name.removesuffix("_validate_prefix"), data)[0]], (0, 0, 0)
+            return [validators.validate_prefix(name.removesuffix("_validate_prefix"), data)[0]], (0, 0, 0)
         for element in validators.elements(name.removesuffix("_next"), data):
             parts.append(element)
         return parts, (0, 0, 0)
@@ -44,9 +44,9 @@ def wanted(name: str, data: bytes, expected: str, filled: str) -> tuple[list[byt
 def are_numbers_named(validators: Validators) -> bool:
     """Whether the wire format of a private message, a key update and the algorithm of a signature have their names."""
     message = bytes.fromhex("0001000201fa0000000000000007010001a102a2a3")
-    handshake = validators.fields("tls13_handshake", bytes([24, 0, 0, 1, 1]))
-    request = validators.fields("tls13_key_update", handshake["body"][3:])["request_update"]
-    algorithm = validators.fields("tls13_certificate_verify", bytes.fromhex("0804000101"))["algorithm"]
+    handshake = validators.locate("tls13_handshake", bytes([24, 0, 0, 1, 1]))
+    request = validators.locate("tls13_key_update", handshake["body"][3:])["request_update"]
+    algorithm = validators.locate("tls13_certificate_verify", bytes.fromhex("0804000101"))["algorithm"]
     is_private = validators.message_wire_format(message) is MlsWireFormat.PRIVATE_MESSAGE
     is_update = handshake["msg_type"] == bytes([Tls13HandshakeType.KEY_UPDATE]) and request == bytes([Tls13KeyUpdateRequest.UPDATE_REQUESTED])
     return is_private and is_update and int.from_bytes(algorithm, "big") == Tls13SignatureScheme.RSA_PSS_RSAE_SHA256

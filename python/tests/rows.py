@@ -28,21 +28,21 @@ def numbers(rejected: Rejected) -> Numbers:
 def validated(validators: Validators, name: str, data: bytes) -> Numbers:
     """What the validator says."""
     try:
-        return 0, len(validators.split(name, data)[0]), 0, 0
+        return 0, len(validators.validate_prefix(name, data)[0]), 0, 0
     except Rejected as rejected:
         return numbers(rejected)
 
 
 def decoded(validators: Validators, name: str, data: bytes) -> Numbers:
     """What the decoder says."""
-    outcome = validators.outcome(f"{name}_decode_check", data)
+    outcome = validators.decode_check(name, data)
     return outcome.status, outcome.taken, outcome.at, outcome.detail
 
 
 def fields(validators: Validators, name: str, data: bytes) -> list[bytes] | Numbers:
     """The fields of a message in their order, or what is rejected."""
     try:
-        return list(validators.fields(name, data).values())
+        return list(validators.locate(name, data, whole=False).values())
     except Rejected as rejected:
         return numbers(rejected)
 
@@ -59,7 +59,7 @@ def are_placed(validators: Validators, name: str, data: bytes, columns: list[str
 def have_lengths(validators: Validators, name: str, data: bytes) -> bool:
     """Whether the lists among the fields of an accepted message have their lengths, as WITH_LENGTH says."""
     lists = LISTS[name.partition("_")[0]]
-    found = {it: value for it, value in validators.fields(name, data).items() if it in lists} if name in FIELDS else {}
+    found = {it: value for it, value in validators.locate(name, data, whole=False).items() if it in lists} if name in FIELDS else {}
     taken = {it: validators.outcome(lists[it], value, Span()).taken for it, value in found.items()}
     return all(taken[it] == len(value) and it in WITH_LENGTH[name] for it, value in found.items())
 
@@ -79,7 +79,7 @@ def is_as_expected(validators: Validators, columns: list[str]) -> bool:
 def rejection(validators: Validators, name: str, data: bytes) -> str:
     """Why bytes aren't one message."""
     try:
-        return f"accepted: {validators.whole(name, data)!r}"
+        return f"accepted: {validators.validate(name, data)!r}"
     except Rejected as rejected:
         return str(rejected)
 
@@ -89,12 +89,21 @@ def are_rejections_worded(validators: Validators) -> bool:
     return (left, unknown) == ("TrailingData at byte 2", "UnknownValue (192) at byte 0")
 
 
+def is_rest_rejected(validators: Validators) -> bool:
+    """Whether fields of a message that bytes come after are given only if they may, and else the place of those bytes is."""
+    try:
+        return not validators.locate("tls13_alert", b"\1\0\7")
+    except Rejected as rejected:
+        found = validators.locate("tls13_alert", b"\1\0\7", whole=False)
+        return str(rejected) == "TrailingData at byte 2" and found == validators.locate("tls13_alert", b"\1\0")
+
+
 def are_buffers_taken(validators: Validators) -> bool:
     """Whether the message in a buffer is found, and what is no buffer is refused."""
     alert = bytearray(b"\1\0")
-    is_taken = validators.whole("tls13_alert", alert) == validators.whole("tls13_alert", memoryview(alert)) == bytes(alert)
+    is_taken = validators.validate("tls13_alert", alert) == validators.validate("tls13_alert", memoryview(alert)) == bytes(alert)
     try:
-        validators.whole("tls13_alert", 2)
+        validators.validate("tls13_alert", 2)
     except TypeError:
         return is_taken
     return False
@@ -102,7 +111,7 @@ def are_buffers_taken(validators: Validators) -> bool:
 
 def are_fields_named(validators: Validators) -> bool:
     """Whether fields have the names that the headers give them."""
-    alert, opaque = validators.fields("tls13_alert", b"\1\0"), validators.fields("tls_codec_opaque_v", b"\2\7\x08\x09")
+    alert, opaque = validators.locate("tls13_alert", b"\1\0"), validators.locate("tls_codec_opaque_v", b"\2\7\x08\x09", whole=False)
     return (alert, opaque) == ({"level": b"\1", "description": b"\0"}, {"content": b"\7\x08"})
 
 
@@ -118,16 +127,17 @@ def lookup(call: Callable[[], object]) -> str:
 def are_names_listed(validators: Validators) -> bool:
     """Whether a message, a list or a call that isn't there raises a LookupError with those that are."""
     said = [
-        lookup(lambda: validators.whole("mls_keypackage", b"")),
-        lookup(lambda: validators.fields("mls_ratchet_tree", b"")),
+        lookup(lambda: validators.validate("mls_keypackage", b"")),
+        lookup(lambda: validators.locate("mls_ratchet_tree", b"")),
         lookup(lambda: list(validators.elements("mls_extensions", b""))),
         lookup(lambda: validators.outcome("mls_framed_content_tbs_encode", b"")),
+        lookup(lambda: validators.decode_check("mls_extension", b"")),
     ]
     bare = Validators(sys.argv[1])
     bare.library = ctypes.CDLL(None)
-    is_lacking = lookup(lambda: bare.whole("mls_message", b"")) == "this shared object has no 'mls_message_validate_prefix'"
+    is_lacking = lookup(lambda: bare.validate("mls_message", b"")) == "this shared object has no 'mls_message_validate_prefix'"
     words = [set(re.findall(r"\w+", it)) for it in said]
-    listed = ["mls_ratchet_tree", "mls_key_package", "mls_extension", "mls_message_wire_format"]
+    listed = ["mls_ratchet_tree", "mls_key_package", "mls_extension", "mls_message_wire_format", "tls13_alert"]
     is_short = "mls_key_package_locate" not in words[1] and "mls_message" not in words[2]
     return is_lacking and is_short and all(one in it for one, it in zip(listed, words))
 
@@ -137,7 +147,7 @@ def main() -> int:
     with open(sys.argv[2], encoding="utf-8") as file:
         rows = [line.rstrip("\n").split("\t") for line in file]
     failed = [is_as_expected(validators, it) for it in rows].count(False)
-    failed += [are_rejections_worded(validators), are_buffers_taken(validators)].count(False)
+    failed += [are_rejections_worded(validators), is_rest_rejected(validators), are_buffers_taken(validators)].count(False)
     failed += [are_fields_named(validators), are_names_listed(validators)].count(False)
     print(f"{len(rows)} rows, {failed} failed")
     return 1 if failed or len(rows) < 100 else 0

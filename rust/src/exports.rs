@@ -220,7 +220,7 @@ pub mod tls13 {
         #[repr(C)]
         #[derive(Clone, Copy, Default)]
         pub struct TLSPlaintextFields {
-            pub kind: Span,
+            pub r#type: Span,
             pub legacy_record_version: Span,
             pub fragment: Span,
         }
@@ -859,7 +859,7 @@ pub mod tls13 {
     #[derive(Clone, Copy, PartialEq, Eq, Debug)]
     pub struct TLSPlaintextFields<'a> {
         /// `ContentType type;`
-        pub kind: &'a [u8],
+        pub r#type: &'a [u8],
         /// `ProtocolVersion legacy_record_version;`
         pub legacy_record_version: &'a [u8],
         /// `opaque fragment[TLSPlaintext.length];`
@@ -873,7 +873,7 @@ pub mod tls13 {
         let outcome = unsafe { foreign::tls13_tls_plaintext_locate(bytes.as_ptr(), bytes.len(), &mut found) };
         let (_, rest) = split_as(bytes, outcome)?;
         let fields = TLSPlaintextFields {
-            kind: found.kind.of(bytes),
+            r#type: found.r#type.of(bytes),
             legacy_record_version: found.legacy_record_version.of(bytes),
             fragment: found.fragment.of(bytes),
         };
@@ -1102,7 +1102,7 @@ pub mod mls {
         pub struct MLSMessageFields {
             pub version: Span,
             pub wire_format: Span,
-            pub message: Span,
+            pub body: Span,
         }
 
         /// Where the fields of a `PublicMessage` are (RFC 9420, section 6.2).
@@ -1135,7 +1135,7 @@ pub mod mls {
             pub sender: Span,
             pub authenticated_data: Span,
             pub content_type: Span,
-            pub content: Span,
+            pub body: Span,
         }
 
         /// Where the fields of a `SenderData` are (RFC 9420, section 6.3.2).
@@ -1543,7 +1543,7 @@ pub mod mls {
         /// `WireFormat wire_format;`
         pub wire_format: &'a [u8],
         /// The message after it, in the form that `wire_format` says
-        pub message: &'a [u8],
+        pub body: &'a [u8],
     }
 
     /// `MLSMessage` (RFC 9420, section 6): returns the fields of the one that `bytes` begin with, and the rest.
@@ -1555,7 +1555,7 @@ pub mod mls {
         let fields = MLSMessageFields {
             version: found.version.of(bytes),
             wire_format: found.wire_format.of(bytes),
-            message: found.message.of(bytes),
+            body: found.body.of(bytes),
         };
         Ok((fields, rest))
     }
@@ -1633,7 +1633,7 @@ pub mod mls {
         /// `ContentType content_type;`
         pub content_type: &'a [u8],
         /// What its case has: `application_data` with its length, a `Proposal` or a `Commit`
-        pub content: &'a [u8],
+        pub body: &'a [u8],
     }
 
     /// `FramedContent` (RFC 9420, section 6), with which a `PublicMessage` begins: returns the fields of the one that `bytes` begin with, and the rest.
@@ -1648,7 +1648,7 @@ pub mod mls {
             sender: found.sender.of(bytes),
             authenticated_data: found.authenticated_data.of(bytes),
             content_type: found.content_type.of(bytes),
-            content: found.content.of(bytes),
+            body: found.body.of(bytes),
         };
         Ok((fields, rest))
     }

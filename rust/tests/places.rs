@@ -46,15 +46,15 @@ fields! {
         certificate_verify locate_certificate_verify: algorithm signature;
         new_session_ticket locate_new_session_ticket: ticket_lifetime ticket_age_add ticket_nonce ticket extensions;
         key_update locate_key_update: request_update;
-        tls_plaintext locate_tls_plaintext: kind legacy_record_version fragment;
+        tls_plaintext locate_tls_plaintext: r#type legacy_record_version fragment;
         tls_ciphertext locate_tls_ciphertext: opaque_type legacy_record_version encrypted_record;
         alert locate_alert: level description;
     }
     mls {
-        message locate_message: version wire_format message;
+        message locate_message: version wire_format body;
         public_message locate_public_message: content auth membership_tag;
         private_message locate_private_message: group_id epoch content_type authenticated_data encrypted_sender_data ciphertext;
-        framed_content locate_framed_content: group_id epoch sender authenticated_data content_type content;
+        framed_content locate_framed_content: group_id epoch sender authenticated_data content_type body;
         sender_data locate_sender_data: leaf_index generation reuse_guard;
         key_package locate_key_package: version cipher_suite init_key leaf_node extensions signature;
         leaf_node locate_leaf_node: encryption_key signature_key credential capabilities leaf_node_source origin extensions signature;

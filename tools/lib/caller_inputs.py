@@ -10,7 +10,7 @@ from lib.libraries import CRATES, ROWS, TOP
 
 PAGE = TOP / "docs" / "CALLERS.md"
 CAPTURED = CRATES / "test_tls13" / "src" / "tests" / "captured"
-# A test vector's names, by python/vectors.py, and the row of each: its message, and what its hex begins with, except for a proposal.
+# A test vector's names, by python/tests/vectors.py, and the row of each: its message, and what its hex begins with, except for a proposal.
 VECTOR = {
     "public_message_commit": ("mls_message", "00010001"),
     "private_message": ("mls_message", "00010002"),

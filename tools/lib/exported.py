@@ -42,7 +42,7 @@ INSIDE = {
     "The offset of the rejected field's first byte; 0 if the bytes are accepted.": " It counts from `bytes`; of `NAME_next` from the first"
     " byte of `*left` before the call, and of `NAME_encode` from `out`. It is 0 if `out` is too small, and of each `NAME_decode_check`.",
 }
-# Fields that C and Python name as the RFC does, where Rattle and Rust have that word themselves.
+# Fields that callers name as the RFC does, where Rattle has that word itself.
 AS_IN_THE_RFC = {"kind": "type"}
 # Names of the texts for `opaque <V>`.
 OPAQUE = re.compile(r"`(?:HPKEPublicKey|SignaturePublicKey|MAC) \w+;`")
@@ -189,7 +189,7 @@ def words_of(text: str) -> str:
 
 
 def named_as_in_the_rfc(field: str) -> str:
-    """A field's name in C and Python."""
+    """A field's name in C and Python, and in Rust where that isn't a word of the language."""
     return AS_IN_THE_RFC.get(field, field)
 
 

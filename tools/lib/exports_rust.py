@@ -2,7 +2,7 @@
 from __future__ import annotations
 
 from lib.exported import CALLS, MEANINGS, WRITTEN, Export, Unread
-from lib.exported import about, archive_of, decoders, exports_of, libraries, module_of, numbers, structs, taken_by
+from lib.exported import about, archive_of, decoders, exports_of, libraries, module_of, named_as_in_the_rfc, numbers, structs, taken_by
 from lib.registries import enums_in_rust
 
 SAFE = "the pointer and the length are of one slice, nothing changes it during the call, and the call keeps no pointer."
@@ -19,6 +19,8 @@ REWORDED = {
     " nothing is written, and the error is `InvalidWriteLength`. `Ok` says that the written bytes are a `FramedContentTBS`, not that"
     " `content` ends where you say: validate both parts before, or take them from `locate_NAME`.",
 }
+# Words of Rust that fields have as names.
+KEYWORDS = {"type"}
 # How many bytes an encoder writes beside its parts: of a FramedContentTBS the version and the wire format.
 BESIDE = {"mls_framed_content_tbs_encode": 4}
 
@@ -28,9 +30,15 @@ def linked(crate: str) -> str:
     return archive_of(crate).removeprefix("lib").removesuffix(".a")
 
 
+def field_in_rust(field: str) -> str:
+    """A field's name in Rust, as the RFC has it."""
+    name = named_as_in_the_rfc(field)
+    return f"r#{name}" if name in KEYWORDS else name
+
+
 def struct_in_rust(kind: str) -> list[str]:
     lines = [f"/// {structs()[kind].text}", "#[repr(C)]", "#[derive(Clone, Copy, Default)]", f"pub struct {kind} {{"]
-    return [*lines, *[f"    pub {name}: {field}," for _, name, field in structs()[kind].fields], "}"]
+    return [*lines, *[f"    pub {field_in_rust(name)}: {field}," for _, name, field in structs()[kind].fields], "}"]
 
 
 def found_in_rust(export: Export, name: str, text: str, kinds: tuple[str, str, str]) -> list[str]:
@@ -68,14 +76,14 @@ def located_in_rust(module: str, export: Export) -> list[str]:
     it = structs()[kind]
     lines = ["", f"    /// {it.text}", "    #[derive(Clone, Copy, PartialEq, Eq, Debug)]", f"    pub struct {kind}<'a> {{"]
     for text, field, _ in it.fields:
-        lines += [f"        /// {text}", f"        pub {field}: &'a [u8],"]
+        lines += [f"        /// {text}", f"        pub {field_in_rust(field)}: &'a [u8],"]
     lines += ["    }", "", f"    /// {export.message()}: returns the fields of the one that `bytes` begin with, and the rest."]
     lines += [f"    pub fn {name}(bytes: &[u8]) -> Result<({kind}<'_>, &[u8]), Rejected> {{"]
     lines += [f"        let mut found = foreign::{kind}::default();"]
     lines += [f"        // SAFETY: {SAFE}"]
     lines += [f"        let outcome = unsafe {{ foreign::{export.name}(bytes.as_ptr(), bytes.len(), &mut found) }};"]
     lines += ["        let (_, rest) = split_as(bytes, outcome)?;", f"        let fields = {kind} {{"]
-    lines += [f"            {field}: found.{field}.of(bytes)," for _, field, _ in it.fields]
+    lines += [f"            {it}: found.{it}.of(bytes)," for it in (field_in_rust(field) for _, field, _ in it.fields)]
     return [*lines, "        };", "        Ok((fields, rest))", "    }"]
 
 

@@ -215,7 +215,7 @@ typedef struct mls_message_fields {
   /* `WireFormat wire_format;` */
   tls_codec_span wire_format;
   /* The message after it, in the form that `wire_format` says */
-  tls_codec_span message;
+  tls_codec_span body;
 } mls_message_fields;
 
 /* `MLSMessage` (RFC 9420, section 6), and where its fields are, if the bytes begin with one. */
@@ -270,7 +270,7 @@ typedef struct mls_framed_content_fields {
   /* `ContentType content_type;` */
   tls_codec_span content_type;
   /* What its case has: `application_data` with its length, a `Proposal` or a `Commit` */
-  tls_codec_span content;
+  tls_codec_span body;
 } mls_framed_content_fields;
 
 /* `FramedContent` (RFC 9420, section 6), with which a `PublicMessage` begins, and where its fields

@@ -22,7 +22,7 @@
 #define TLS_CODEC_VERSION "0.2.0"
 
 /* The line that `tls_codec.version` beside archives of just these headers has. */
-#define TLS_CODEC_HEADERS "0.2.0 4c6ad1ba4fcaf0c6"
+#define TLS_CODEC_HEADERS "0.2.0 2b9807c85a4ec5fa"
 
 /* A call's status. The numbers don't change. */
 enum tls_codec_status {

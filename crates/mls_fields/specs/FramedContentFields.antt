@@ -14,5 +14,5 @@ pub record AreFramedContentFields (x : List ℕ) (f : FramedContentFields) : Typ
   pub epoch : IsFieldFrom (number_format 8) x (span_end f.group_id) f.epoch
   pub sender : IsFieldFrom sender_format x (span_end f.epoch) f.sender
   pub authenticated_data : IsContentFrom variable_field x (span_end f.sender) f.authenticated_data
-  pub content : IsCaseFrom 1 framed_content_body_variants x (span_end f.authenticated_data)
-      f.content_type f.content
+  pub body : IsCaseFrom 1 framed_content_body_variants x (span_end f.authenticated_data)
+      f.content_type f.body

@@ -9,5 +9,5 @@ use Rattle.mls_fields.specs.declared.mls_message.MLSMessageFields.{MLSMessageFie
 -- x begins with them, one after the other; the tag of two bytes decides what is after it
 pub record AreMLSMessageFields (x : List ℕ) (f : MLSMessageFields) : Type 0 where
   pub version : IsFieldFrom protocol_version_mls10_format x 0 f.version
-  pub message : IsCaseFrom 2 mls_message_body_variants x (span_end f.version)
-      f.wire_format f.message
+  pub body : IsCaseFrom 2 mls_message_body_variants x (span_end f.version)
+      f.wire_format f.body

@@ -24,7 +24,7 @@ pub struct FramedContentFields {
     /// `ContentType content_type;`
     pub content_type: Span,
     /// What its case has: `application_data` with its length, a `Proposal` or a `Commit`
-    pub content: Span,
+    pub body: Span,
 }
 
 struct Contents {}
@@ -54,7 +54,7 @@ impl FramedContentFields {
     pub fn locate(bytes: &[u8]) -> FramedContentFields
         ensures { Located framed_content_format AreFramedContentFields bytes.now result }
     {
-        let (((group_id, epoch, sender), (authenticated_data, (content_type, content))), _) =
+        let (((group_id, epoch, sender), (authenticated_data, (content_type, body))), _) =
             <Parts>::locate(bytes, 0);
         FramedContentFields {
             group_id,
@@ -62,7 +62,7 @@ impl FramedContentFields {
             sender,
             authenticated_data,
             content_type,
-            content,
+            body,
         }
     }
 }

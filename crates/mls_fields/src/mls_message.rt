@@ -17,7 +17,7 @@ pub struct MLSMessageFields {
     /// `WireFormat wire_format;`
     pub wire_format: Span,
     /// The message after it, in the form that `wire_format` says
-    pub message: Span,
+    pub body: Span,
 }
 
 struct Formats {}
@@ -44,11 +44,11 @@ impl MLSMessageFields {
     pub fn locate(bytes: &[u8]) -> MLSMessageFields
         ensures { Located mls_message_format AreMLSMessageFields bytes.now result }
     {
-        let ((version, (wire_format, message)), _) = <Parts>::locate(bytes, 0);
+        let ((version, (wire_format, body)), _) = <Parts>::locate(bytes, 0);
         MLSMessageFields {
             version,
             wire_format,
-            message,
+            body,
         }
     }
 }

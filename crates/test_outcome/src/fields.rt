@@ -12,7 +12,7 @@ pub fn located(alloc: Global, name: &str, bytes: &[u8]) -> Result<Vec<Span>, All
     match name {
         "mls_message" => {
             let it = MLSMessageFields::locate(bytes);
-            [it.version, it.wire_format, it.message].to_vec(alloc)
+            [it.version, it.wire_format, it.body].to_vec(alloc)
         }
         "mls_public_message" => {
             let it = PublicMessageFields::locate(bytes);
@@ -31,7 +31,7 @@ pub fn located(alloc: Global, name: &str, bytes: &[u8]) -> Result<Vec<Span>, All
         "mls_framed_content" => {
             let it = FramedContentFields::locate(bytes);
             let front = [it.group_id, it.epoch, it.sender];
-            let back = [it.authenticated_data, it.content_type, it.content];
+            let back = [it.authenticated_data, it.content_type, it.body];
             joined(alloc, &front, &back)
         }
         "mls_sender_data" => {

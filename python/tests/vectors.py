@@ -6,9 +6,11 @@ by their names. Prints a line for each that is rejected, or whose name isn't kno
 from __future__ import annotations
 
 import json
+import pathlib
 import sys
 
 sys.dont_write_bytecode = True
+sys.path.insert(0, str(pathlib.Path(__file__).resolve().parent.parent))
 from tls_codec import Rejected, Validators
 
 # The message that each name has.
@@ -45,7 +47,7 @@ def rejection(validators: Validators, name: str, data: bytes) -> str:
     else:
         return "no message of this name is known"
     try:
-        validators.whole(message, data)
+        validators.validate(message, data)
     except Rejected as rejected:
         return f"{rejected} of {len(data)}"
     return ""
