@@ -233,7 +233,10 @@ fn elements_after_a_fixed_length_in_a_context(rt: HostRuntime) {
     let Ok(list) = EncodedFor::<u8, TlsVecU8<When<Is<3>, u16>>>::new(&3, &[2, 0, 7]) else {
         panic!(rt; "no encoding");
     };
-    for element in list.elements() {
-        same(&rt, number_of(&element), Some(7));
-    }
+    let mut elements = list.elements();
+    let Some(element) = elements.next() else {
+        panic!(rt; "no element");
+    };
+    same(&rt, number_of(&element), Some(7));
+    same(&rt, elements.next().is_none(), true);
 }
