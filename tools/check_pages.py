@@ -1,5 +1,5 @@
 #!/usr/bin/env python3
-"""Compares the pages with the crates: those at the top and docs/*.md.
+"""Compares the pages with the crates: those at the top, docs/*.md, and the README.md of c/, python/ and rust/.
 
 - A block of code has to occur, line by line and in order, in the file that the words before it name
   (`src/leaf.rt`, `specs/Messages.antt`), or, if they name none, in one file under crates/. From a function's head it leaves out no
@@ -27,7 +27,7 @@ import dialect
 import page_limits
 import pictures
 from lib.blocks import NOT_QUOTED, blocks, prose
-from lib.libraries import PAGES, TOP, files_of_clone
+from lib.libraries import CALLER_PAGES, PAGES, TOP, files_of_clone
 
 # A fault: the line where it is, and what it is.
 Fault = tuple[int, str]
@@ -191,7 +191,8 @@ def main() -> int:
     for text in selftest():
         print(text)
         failed.add("selftest")
-    for page in PAGES:
+    pages = [*PAGES, *CALLER_PAGES]
+    for page in pages:
         lines = page.read_text().split("\n")
         found = [*check_quotes(lines, files), *check_links(page, lines), *check_merged(lines)]
         if page.name != "CHANGELOG.md":
@@ -216,8 +217,8 @@ def main() -> int:
         if (TOP / "docs" / name).read_text() != draw(False).svg():
             print(f"docs/{name}: not as tools/pictures.py draws it")
             failed.add(name)
-    read = len(PAGES) + len(pictures.PICTURES) + 4
-    compared = f"{len(PAGES)} pages and {len(pictures.PICTURES)} pictures were compared with the crates"
+    read = len(pages) + len(pictures.PICTURES) + 4
+    compared = f"{len(pages)} pages and {len(pictures.PICTURES)} pictures were compared with the crates"
     print(f"{compared}, and the words of {len(commented)} sources read")
     print(f"{read - len(failed)} passed, {len(failed)} failed")
     return 1 if failed else 0

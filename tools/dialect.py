@@ -1,5 +1,5 @@
 #!/usr/bin/env python3
-"""Lists words of this project's dialect, with what to write in their place: in the pages, those at the top and docs/*.md, and in the
+"""Lists words of this project's dialect, with what to write in their place: in the pages, those at the top, docs/*.md and callers', and in the
 comments of the scripts, of what callers elsewhere are given, and of all crates, but those of KEPT.
 
 Words in `code`, in blocks and in links' targets don't count. Prints a line for each; last 'N passed, N failed', which counts files; the
@@ -14,7 +14,7 @@ import sys
 import tokenize
 from collections.abc import Iterator
 
-from lib.libraries import PAGES, TOP
+from lib.libraries import CALLER_PAGES, PAGES, TOP
 
 CALLERS = ("c/**/*.[ch]", "c/**/*.cc", "rust/**/*.rs", "python/**/*.py")
 SCRIPTS = (".ci/run", "tools/*", "tools/lib/**/*.py", "tools/data/*")
@@ -121,7 +121,7 @@ def files(forms: tuple[str, ...]) -> list[pathlib.Path]:
 
 def main() -> int:
     passed, failed = 0, 0
-    for page in (*PAGES, *files(SOURCES)):
+    for page in (*PAGES, *CALLER_PAGES, *files(SOURCES)):
         found = list(findings(page))
         for line, word, better in found:
             print(f"{page.relative_to(TOP)}:{line}: {word!r}: {better}")

@@ -13,6 +13,8 @@ CRATES = TOP / "crates"
 # The texts of messages, with their notes.
 DATA = CRATES / "tlsgen" / "data"
 PAGES = [*sorted(TOP.glob("*.md")), *sorted((TOP / "docs").glob("*.md"))]
+# The pages of callers in other languages, which lie beside their code.
+CALLER_PAGES = [TOP / name / "README.md" for name in ("c", "python", "rust")]
 # The rows of messages that validators and decoders of callers are tried with.
 ROWS = [CRATES / "test_outcome" / "stdout", TOP / "c" / "tests" / "tls13.tsv"]
 # The crates with laws that tlsgen wrote, and the text of each, which has the crate's name but in one place.
