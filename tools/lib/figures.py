@@ -136,7 +136,7 @@ def rejected() -> dict[tuple[str, str], tuple[str, str]]:
     code = "\n".join(path.read_text() for path in sorted((CRATES / "test_types/src").rglob("*.rt")))
     errors = dict(re.findall(r"^(?:pub(?:\(\w+\))? )?const (\w+): Error =\s*Error::([^;]*);", code, re.M))
     found = {}
-    for of, data, name in re.findall(r"expect_refused::<(.*)>\(&rt, alloc, &\[([^\]]*)\], (\w+)\)", code):
+    for of, data, name in re.findall(r"expect_rejected::<(.*)>\(&rt, alloc, &\[([^\]]*)\], (\w+)\)", code):
         numbers = re.findall(r"\b(?:0x[0-9a-f]+|\d+)\b", data)
         found[of, "".join(f"{int(it, 0):02x}" for it in numbers)] = (errors.get(name, name),) * 2
     return found

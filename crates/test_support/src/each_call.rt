@@ -8,7 +8,7 @@ use tls_codec_validate::Validate;
 use tls_codec_vectors::Drip;
 
 /// Each decoder reads the same value from the bytes, to the last one, and each encoder writes it as them.
-pub fn round_trips<T>(alloc: Global, row: &str, bytes: &[u8]) -> Result<(), Fail>
+pub fn expect_round_trip<T>(alloc: Global, row: &str, bytes: &[u8]) -> Result<(), Fail>
 where
     T: Serialize + Deserialize + Validate + Eq + Debug + Clone,
 {
@@ -47,7 +47,7 @@ pub fn expect_encoded_as<T>(alloc: Global, row: &str, value: &T, bytes: &[u8]) -
 where
     T: Serialize + Deserialize + Validate + Eq + Debug + Clone,
 {
-    round_trips::<T>(alloc, row, bytes)?;
+    expect_round_trip::<T>(alloc, row, bytes)?;
     let read = done_at(row, T::tls_deserialize_exact_bytes(alloc, bytes))?;
     same_at(row, &read, value)?;
     expect_written(alloc, row, value, bytes)?;
@@ -56,26 +56,26 @@ where
     let (found, rest) = T::tls_deserialize_bytes(alloc, &longer)?;
     same_at(row, &found, value)?;
     same_at(row, rest, [0xee].as_slice())?;
-    rejects_another_byte::<T>(alloc, row, bytes)?;
+    expect_another_byte_rejected::<T>(alloc, row, bytes)?;
     for length in 0..bytes.len() {
-        expect_refused::<T>(alloc, row, &bytes[..length], Error::EndOfStream)?;
+        expect_rejected::<T>(alloc, row, &bytes[..length], Error::EndOfStream)?;
     }
     Ok(())
 }
 
 /// Each decoder rejects the bytes with this error.
-pub fn expect_refused<T: Deserialize + Validate>(
+pub fn expect_rejected<T: Deserialize + Validate>(
     alloc: Global,
     row: &str,
     bytes: &[u8],
     error: Error,
 ) -> Result<(), Fail> {
-    expect_refused_by::<T>(alloc, row, bytes, error, error)
+    expect_rejected_by::<T>(alloc, row, bytes, error, error)
 }
 
 /// A slice's decoder rejects the bytes with one error, as does validation, and a source's with
 /// another.
-pub fn expect_refused_by<T: Deserialize + Validate>(
+pub fn expect_rejected_by<T: Deserialize + Validate>(
     alloc: Global,
     row: &str,
     bytes: &[u8],
@@ -94,7 +94,7 @@ pub fn expect_refused_by<T: Deserialize + Validate>(
 }
 
 // The decoders that read to the end reject another byte after these.
-fn rejects_another_byte<T: Deserialize + Validate>(
+fn expect_another_byte_rejected<T: Deserialize + Validate>(
     alloc: Global,
     row: &str,
     bytes: &[u8],

@@ -8,7 +8,7 @@ use tls_codec_validate::{Keyed, ValidateFor};
 use tls_codec_vectors::Drip;
 
 /// Each decoder reads the same value from the bytes, to the last one, and each encoder writes it as them.
-pub fn round_trips_in<C: Keyed, T>(
+pub fn expect_round_trip_in<C: Keyed, T>(
     alloc: Global,
     row: &str,
     context: &C,
@@ -50,7 +50,7 @@ fn expect_written_in<C: Size, T: SerializeFor<C>>(
 }
 
 /// No encoder writes the value in a context that asks for another one.
-pub fn expect_does_not_fit<C: Size, T: SerializeFor<C>>(
+pub fn expect_does_not_fit_in<C: Size, T: SerializeFor<C>>(
     alloc: Global,
     row: &str,
     context: &C,
@@ -68,7 +68,7 @@ pub fn expect_does_not_fit<C: Size, T: SerializeFor<C>>(
 }
 
 /// Each decoder rejects the bytes in a context with this error.
-pub fn expect_refused_in<C: Keyed, T: DeserializeFor<C> + ValidateFor<C>>(
+pub fn expect_rejected_in<C: Keyed, T: DeserializeFor<C> + ValidateFor<C>>(
     alloc: Global,
     row: &str,
     context: &C,

@@ -47,7 +47,7 @@ fn same_at<Row: Debug + Drop, T: PartialEq + Debug + Drop>(
 }
 
 // A refusal that has this word in what it expects.
-fn expects(rt: &impl Abort, refusal: &Refusal, word: &str) {
+fn expect_in_refusal(rt: &impl Abort, refusal: &Refusal, word: &str) {
     assert!(rt; refusal.expected.contains(word), "{refusal}");
 }
 

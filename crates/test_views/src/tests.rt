@@ -27,7 +27,7 @@ fn encoded<'a, T: Validate>(rt: &impl Abort, bytes: &'a [u8]) -> Encoded<'a, T> 
     }
 }
 
-fn same_value<T: ReadInPlace + PartialEq + Debug + Drop>(
+fn expect_value<T: ReadInPlace + PartialEq + Debug + Drop>(
     rt: &impl Abort,
     bytes: &[u8],
     expected: T,
@@ -75,12 +75,12 @@ fn an_encoding_that_begins_bytes(rt: HostRuntime) {
 
 #[test]
 fn a_value_of_each_kind_of_number(rt: HostRuntime) {
-    same_value(&rt, &[7], 7u8);
-    same_value(&rt, &[1, 2], 258u16);
-    same_value(&rt, &[0, 1, 2], U24::from_be_bytes([0, 1, 2]));
-    same_value(&rt, &[0, 0, 1, 2], 258u32);
-    same_value(&rt, &[0, 0, 0, 0, 0, 0, 1, 2], 258u64);
-    same_value(&rt, &[3, 4, 5], [3u8, 4, 5]);
+    expect_value(&rt, &[7], 7u8);
+    expect_value(&rt, &[1, 2], 258u16);
+    expect_value(&rt, &[0, 1, 2], U24::from_be_bytes([0, 1, 2]));
+    expect_value(&rt, &[0, 0, 1, 2], 258u32);
+    expect_value(&rt, &[0, 0, 0, 0, 0, 0, 1, 2], 258u64);
+    expect_value(&rt, &[3, 4, 5], [3u8, 4, 5]);
     same(
         &rt,
         Some(encoded::<TlsVarInt>(&rt, &[0x40, 0x40]).get()),

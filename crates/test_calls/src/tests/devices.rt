@@ -51,7 +51,7 @@ fn expect_not_written<T: Serialize>(
 }
 
 // The value of these bytes is neither read nor written.
-fn fails<T: Deserialize + DeserializeBytes + Serialize>(
+fn expect_error_at_each_call<T: Deserialize + DeserializeBytes + Serialize>(
     rt: &impl Abort,
     alloc: Global,
     bytes: &[u8],
@@ -64,35 +64,35 @@ fn fails<T: Deserialize + DeserializeBytes + Serialize>(
 #[test]
 fn plain_types(rt: HostRuntime) -> Result<(), Fail> {
     let alloc = rt.alloc();
-    fails::<u8>(&rt, alloc, &[1])?;
-    fails::<u16>(&rt, alloc, &[1, 2])?;
-    fails::<U24>(&rt, alloc, &[1, 2, 3])?;
-    fails::<u32>(&rt, alloc, &[1, 2, 3, 4])?;
-    fails::<u64>(&rt, alloc, &[1, 2, 3, 4, 5, 6, 7, 8])?;
-    fails::<TlsVarInt>(&rt, alloc, &[0x80, 0, 0x40, 0])?;
-    fails::<[u8; 3]>(&rt, alloc, &[1, 2, 3])?;
-    fails::<Option<u16>>(&rt, alloc, &[1, 0, 7])?;
-    fails::<(u8, u16)>(&rt, alloc, &[1, 0, 7])?;
-    fails::<(u8, u16, u8)>(&rt, alloc, &[1, 0, 7, 8])?;
-    fails::<Box<u16>>(&rt, alloc, &[0, 7])
+    expect_error_at_each_call::<u8>(&rt, alloc, &[1])?;
+    expect_error_at_each_call::<u16>(&rt, alloc, &[1, 2])?;
+    expect_error_at_each_call::<U24>(&rt, alloc, &[1, 2, 3])?;
+    expect_error_at_each_call::<u32>(&rt, alloc, &[1, 2, 3, 4])?;
+    expect_error_at_each_call::<u64>(&rt, alloc, &[1, 2, 3, 4, 5, 6, 7, 8])?;
+    expect_error_at_each_call::<TlsVarInt>(&rt, alloc, &[0x80, 0, 0x40, 0])?;
+    expect_error_at_each_call::<[u8; 3]>(&rt, alloc, &[1, 2, 3])?;
+    expect_error_at_each_call::<Option<u16>>(&rt, alloc, &[1, 0, 7])?;
+    expect_error_at_each_call::<(u8, u16)>(&rt, alloc, &[1, 0, 7])?;
+    expect_error_at_each_call::<(u8, u16, u8)>(&rt, alloc, &[1, 0, 7, 8])?;
+    expect_error_at_each_call::<Box<u16>>(&rt, alloc, &[0, 7])
 }
 
 #[test]
 fn lists_and_bytes(rt: HostRuntime) -> Result<(), Fail> {
     let alloc = rt.alloc();
-    fails::<Vec<u16>>(&rt, alloc, &[4, 0, 1, 0, 2])?;
-    fails::<Vec<Option<u8>>>(&rt, alloc, &[3, 1, 7, 0])?;
-    fails::<String>(&rt, alloc, &[2, 0xc3, 0xa9])?;
-    fails::<VLBytes>(&rt, alloc, &[2, 7, 8])?;
-    fails::<VLByteVec>(&rt, alloc, &[2, 7, 8])?;
-    fails::<SecretVLBytes>(&rt, alloc, &[2, 7, 8])?;
-    fails::<SecretVLByteVec>(&rt, alloc, &[2, 7, 8])?;
-    fails::<TlsVecU16<u16>>(&rt, alloc, &[0, 2, 0, 7])?;
-    fails::<TlsVecU32<VLBytes>>(&rt, alloc, &[0, 0, 0, 2, 1, 7])?;
-    fails::<SecretTlsVecU8<u16>>(&rt, alloc, &[2, 0, 7])?;
-    fails::<SecretTlsVecU24<u8>>(&rt, alloc, &[0, 0, 1, 7])?;
-    fails::<TlsByteVecU16>(&rt, alloc, &[0, 1, 7])?;
-    fails::<TlsByteVecU32>(&rt, alloc, &[0, 0, 0, 1, 7])
+    expect_error_at_each_call::<Vec<u16>>(&rt, alloc, &[4, 0, 1, 0, 2])?;
+    expect_error_at_each_call::<Vec<Option<u8>>>(&rt, alloc, &[3, 1, 7, 0])?;
+    expect_error_at_each_call::<String>(&rt, alloc, &[2, 0xc3, 0xa9])?;
+    expect_error_at_each_call::<VLBytes>(&rt, alloc, &[2, 7, 8])?;
+    expect_error_at_each_call::<VLByteVec>(&rt, alloc, &[2, 7, 8])?;
+    expect_error_at_each_call::<SecretVLBytes>(&rt, alloc, &[2, 7, 8])?;
+    expect_error_at_each_call::<SecretVLByteVec>(&rt, alloc, &[2, 7, 8])?;
+    expect_error_at_each_call::<TlsVecU16<u16>>(&rt, alloc, &[0, 2, 0, 7])?;
+    expect_error_at_each_call::<TlsVecU32<VLBytes>>(&rt, alloc, &[0, 0, 0, 2, 1, 7])?;
+    expect_error_at_each_call::<SecretTlsVecU8<u16>>(&rt, alloc, &[2, 0, 7])?;
+    expect_error_at_each_call::<SecretTlsVecU24<u8>>(&rt, alloc, &[0, 0, 1, 7])?;
+    expect_error_at_each_call::<TlsByteVecU16>(&rt, alloc, &[0, 1, 7])?;
+    expect_error_at_each_call::<TlsByteVecU32>(&rt, alloc, &[0, 0, 0, 1, 7])
 }
 
 #[test]

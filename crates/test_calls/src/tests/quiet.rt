@@ -83,7 +83,7 @@ fn content(alloc: Global, src: &mut Quiet<'_>) -> Result<VLBytes, Error>
 
 // Only the bytes that were asked for are taken.
 #[test]
-fn quiet_sources_are_refused(rt: HostRuntime) {
+fn quiet_sources_are_rejected(rt: HostRuntime) {
     let alloc = rt.alloc();
     let ends = Some(Error::EndOfStream);
     let mut source = Quiet { left: &[1] };

@@ -6,7 +6,7 @@ use ct::{
 };
 use std::alloc::Global;
 use std::test::Fail;
-use test_support::each_call::{expect_encoded_as, expect_refused};
+use test_support::each_call::{expect_encoded_as, expect_rejected};
 use tls_codec::Error;
 
 fn to_be_signed(
@@ -59,7 +59,7 @@ fn timestamps(rt: HostRuntime) -> Result<(), Fail> {
 }
 
 #[test]
-fn refused_timestamps(rt: HostRuntime) -> Result<(), Fail> {
+fn rejected_timestamps(rt: HostRuntime) -> Result<(), Fail> {
     let alloc = rt.alloc();
     for (row, at, byte, error) in [
         ("version 1", 0, 1, Error::UnknownValue(1)),
@@ -75,7 +75,7 @@ fn refused_timestamps(rt: HostRuntime) -> Result<(), Fail> {
     ] {
         let mut bytes = OF_CERTIFICATE.to_vec(alloc)?;
         bytes[at] = byte;
-        expect_refused::<SignedCertificateTimestampTBS>(alloc, row, &bytes, error)?;
+        expect_rejected::<SignedCertificateTimestampTBS>(alloc, row, &bytes, error)?;
     }
     Ok(())
 }
@@ -105,7 +105,7 @@ fn trees(rt: HostRuntime) -> Result<(), Fail> {
         ("version 1", [1, 1], Error::UnknownValue(1)),
         ("certificate_timestamp", [0, 0], Error::UnknownValue(0)),
     ] {
-        expect_refused::<TreeHeadSignature>(alloc, row, &bytes, error)?;
+        expect_rejected::<TreeHeadSignature>(alloc, row, &bytes, error)?;
     }
     Ok(())
 }

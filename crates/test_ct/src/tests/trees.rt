@@ -5,7 +5,7 @@ use ct::{
 };
 use std::alloc::Global;
 use std::test::Fail;
-use test_support::each_call::{expect_encoded_as, expect_refused};
+use test_support::each_call::{expect_encoded_as, expect_rejected};
 use tls_codec::Error;
 
 fn leaf(
@@ -61,7 +61,7 @@ fn leaves(rt: HostRuntime) -> Result<(), Fail> {
 }
 
 #[test]
-fn refused_leaves(rt: HostRuntime) -> Result<(), Fail> {
+fn rejected_leaves(rt: HostRuntime) -> Result<(), Fail> {
     let alloc = rt.alloc();
     for (row, at, byte, error) in [
         ("version 1", 0, 1, Error::UnknownValue(1)),
@@ -77,7 +77,7 @@ fn refused_leaves(rt: HostRuntime) -> Result<(), Fail> {
     ] {
         let mut bytes = OF_CERTIFICATE.to_vec(alloc)?;
         bytes[at] = byte;
-        expect_refused::<MerkleTreeLeaf>(alloc, row, &bytes, error)?;
+        expect_rejected::<MerkleTreeLeaf>(alloc, row, &bytes, error)?;
     }
     Ok(())
 }

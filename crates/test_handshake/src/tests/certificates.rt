@@ -1,7 +1,7 @@
 //! Certificates and raw public keys, by the type that was agreed on (section 4.4.2).
 use crate::tests::captured::CERTIFICATE;
 use crate::tests::each_call::{
-    expect_does_not_fit, expect_encoded_as, expect_refused_in, expect_spelled_in,
+    expect_does_not_fit_in, expect_encoded_as, expect_rejected_in, expect_spelled_in,
 };
 use crate::tests::holds;
 use handshake_by_hand::{
@@ -60,8 +60,8 @@ fn a_certificate_that_a_server_sent(rt: HostRuntime) -> Result<(), Fail> {
     let read = Certificate::tls_deserialize_exact_bytes_for(&RAW, alloc, body)?;
     holds(&rt, read != certificate);
     expect_spelled_in(&rt, alloc, &RAW, &read, body)?;
-    expect_does_not_fit(&rt, alloc, &RAW, &certificate)?;
-    expect_does_not_fit(&rt, alloc, &X509, &read)
+    expect_does_not_fit_in(&rt, alloc, &RAW, &certificate)?;
+    expect_does_not_fit_in(&rt, alloc, &X509, &read)
 }
 
 // An Ed25519 key (RFC 8410), and an answer to `status_request`.
@@ -86,7 +86,7 @@ fn a_raw_public_key(rt: HostRuntime) -> Result<(), Fail> {
     spelled.extend_from_slice(&key)?;
     spelled.extend_from_slice(&[0, 9, 0, 5, 0, 5, 1, 0, 0, 1, 9])?;
     expect_spelled_in(&rt, alloc, &RAW, &certificate, &spelled)?;
-    expect_does_not_fit(&rt, alloc, &X509, &certificate)
+    expect_does_not_fit_in(&rt, alloc, &X509, &certificate)
 }
 
 fn entry(alloc: Global, byte: u8) -> Result<CertificateEntry, Error> {
@@ -107,7 +107,7 @@ fn each_entry_is_of_the_same_type(rt: HostRuntime) -> Result<(), Fail> {
     };
     let spelled = [0, 0, 0, 12, 0, 0, 1, 6, 0, 0, 0, 0, 1, 7, 0, 0];
     expect_spelled_in(&rt, alloc, &X509, &certificate, &spelled)?;
-    expect_does_not_fit(&rt, alloc, &RAW, &certificate)?;
+    expect_does_not_fit_in(&rt, alloc, &RAW, &certificate)?;
     let key = CertificateData::RawPublicKey(TlsByteVec::from_slice(alloc, &[7])?);
     let entries = [
         entry(alloc, 6)?,
@@ -120,8 +120,8 @@ fn each_entry_is_of_the_same_type(rt: HostRuntime) -> Result<(), Fail> {
         certificate_request_context: TlsByteVecU8::from_slice(alloc, &[])?,
         certificate_list: TlsVecU24::new(Vec::from_array(alloc, entries)?),
     };
-    expect_does_not_fit(&rt, alloc, &X509, &mixed)?;
-    expect_does_not_fit(&rt, alloc, &RAW, &mixed)
+    expect_does_not_fit_in(&rt, alloc, &X509, &mixed)?;
+    expect_does_not_fit_in(&rt, alloc, &RAW, &mixed)
 }
 
 // A list that ends within an entry, and a certificate of no bytes.
@@ -129,8 +129,8 @@ fn each_entry_is_of_the_same_type(rt: HostRuntime) -> Result<(), Fail> {
 fn rejected_lists(rt: HostRuntime) -> Result<(), Fail> {
     let alloc = rt.alloc();
     let cut = [0, 0, 0, 5, 0, 0, 1, 6, 0];
-    expect_refused_in::<_, Certificate>(&rt, alloc, &X509, &cut, Error::EndOfStream);
+    expect_rejected_in::<_, Certificate>(&rt, alloc, &X509, &cut, Error::EndOfStream);
     let none = [0, 0, 0, 5, 0, 0, 0, 0, 0];
-    expect_refused_in::<_, Certificate>(&rt, alloc, &X509, &none, Error::InvalidVectorLength);
+    expect_rejected_in::<_, Certificate>(&rt, alloc, &X509, &none, Error::InvalidVectorLength);
     Ok(())
 }

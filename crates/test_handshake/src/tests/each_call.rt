@@ -39,7 +39,7 @@ where
 }
 
 // Each decoder rejects the bytes with this error.
-pub(super) fn expect_refused<T: Deserialize + DeserializeBytes>(
+pub(super) fn expect_rejected<T: Deserialize + DeserializeBytes>(
     rt: &impl Abort,
     alloc: Global,
     bytes: &[u8],
@@ -90,7 +90,7 @@ where
 }
 
 // No encoder writes the value in a context that asks for another one, and a vector has the bytes from before.
-pub(super) fn expect_does_not_fit<C: Size, T: SerializeFor<C>>(
+pub(super) fn expect_does_not_fit_in<C: Size, T: SerializeFor<C>>(
     rt: &impl Abort,
     alloc: Global,
     context: &C,
@@ -115,7 +115,7 @@ pub(super) fn expect_does_not_fit<C: Size, T: SerializeFor<C>>(
 }
 
 // Each decoder rejects the bytes in a context with this error.
-pub(super) fn expect_refused_in<C: Size, T: DeserializeFor<C> + DeserializeBytesFor<C>>(
+pub(super) fn expect_rejected_in<C: Size, T: DeserializeFor<C> + DeserializeBytesFor<C>>(
     rt: &impl Abort,
     alloc: Global,
     context: &C,

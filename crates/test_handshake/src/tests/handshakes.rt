@@ -1,6 +1,6 @@
 //! Messages, their bodies in their lengths (section 4).
 use crate::tests::captured::{CERTIFICATE_VERIFY, FINISHED};
-use crate::tests::each_call::{expect_encoded_as, expect_refused};
+use crate::tests::each_call::{expect_encoded_as, expect_rejected};
 use handshake_by_hand::{CertificateVerify, Handshake, KeyUpdateRequest, UnknownHandshake};
 use std::test::Fail;
 use tls_codec::{Error, TlsByteVecU16, TlsByteVecU24};
@@ -36,7 +36,7 @@ fn updates_of_keys(rt: HostRuntime) -> Result<(), Fail> {
     expect_encoded_as(&rt, alloc, &update, &[24, 0, 0, 1, 0])?;
     let update = Handshake::KeyUpdate(KeyUpdateRequest::UpdateRequested);
     expect_encoded_as(&rt, alloc, &update, &[24, 0, 0, 1, 1])?;
-    expect_refused::<Handshake>(&rt, alloc, &[24, 0, 0, 1, 2], Error::UnknownValue(2));
+    expect_rejected::<Handshake>(&rt, alloc, &[24, 0, 0, 1, 2], Error::UnknownValue(2));
     Ok(())
 }
 
@@ -52,8 +52,8 @@ fn messages_of_other_types(rt: HostRuntime) -> Result<(), Fail> {
 fn bodies_fill_their_lengths(rt: HostRuntime) -> Result<(), Fail> {
     let alloc = rt.alloc();
     let trailing = Error::TrailingData;
-    expect_refused::<Handshake>(&rt, alloc, &[24, 0, 0, 2, 1, 0], trailing);
-    expect_refused::<Handshake>(&rt, alloc, &[5, 0, 0, 1, 0], trailing);
-    expect_refused::<Handshake>(&rt, alloc, &[24, 0, 0, 0, 1], Error::EndOfStream);
+    expect_rejected::<Handshake>(&rt, alloc, &[24, 0, 0, 2, 1, 0], trailing);
+    expect_rejected::<Handshake>(&rt, alloc, &[5, 0, 0, 1, 0], trailing);
+    expect_rejected::<Handshake>(&rt, alloc, &[24, 0, 0, 0, 1], Error::EndOfStream);
     Ok(())
 }

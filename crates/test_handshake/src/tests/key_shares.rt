@@ -1,5 +1,5 @@
 //! Key shares by their message (section 4.2.8).
-use crate::tests::each_call::{expect_does_not_fit, expect_refused_in, expect_spelled_in};
+use crate::tests::each_call::{expect_does_not_fit_in, expect_rejected_in, expect_spelled_in};
 use handshake_by_hand::{KeyShare, KeyShareEntry};
 use std::alloc::Global;
 use std::test::Fail;
@@ -37,7 +37,7 @@ fn of_a_client(rt: HostRuntime) -> Result<(), Fail> {
     let entry = x25519(alloc, &CLIENT_SHARES[6..])?;
     let share = KeyShare::ClientHello(TlsVecU16::new(Vec::from_array(alloc, [entry])?));
     expect_spelled_in(&rt, alloc, &CLIENT_HELLO, &share, &CLIENT_SHARES)?;
-    expect_does_not_fit(&rt, alloc, &SERVER_HELLO, &share)?;
+    expect_does_not_fit_in(&rt, alloc, &SERVER_HELLO, &share)?;
     let none = KeyShare::ClientHello(TlsVecU16::from_slice(alloc, &[])?);
     expect_spelled_in(&rt, alloc, &CLIENT_HELLO, &none, &[0, 0])
 }
@@ -47,7 +47,7 @@ fn of_a_server(rt: HostRuntime) -> Result<(), Fail> {
     let alloc = rt.alloc();
     let share = KeyShare::ServerHello(x25519(alloc, &SERVER_SHARE[4..])?);
     expect_spelled_in(&rt, alloc, &SERVER_HELLO, &share, &SERVER_SHARE)?;
-    expect_does_not_fit(&rt, alloc, &HELLO_RETRY_REQUEST, &share)
+    expect_does_not_fit_in(&rt, alloc, &HELLO_RETRY_REQUEST, &share)
 }
 
 #[test]
@@ -55,15 +55,15 @@ fn of_a_retry(rt: HostRuntime) -> Result<(), Fail> {
     let alloc = rt.alloc();
     let share = KeyShare::HelloRetryRequest(0x0018);
     expect_spelled_in(&rt, alloc, &HELLO_RETRY_REQUEST, &share, &[0, 0x18])?;
-    expect_does_not_fit(&rt, alloc, &CLIENT_HELLO, &share)
+    expect_does_not_fit_in(&rt, alloc, &CLIENT_HELLO, &share)
 }
 
 #[test]
 fn no_other_message_has_one(rt: HostRuntime) -> Result<(), Fail> {
     let alloc = rt.alloc();
-    expect_refused_in::<_, KeyShare>(&rt, alloc, &8, &[0, 0x18], Error::UnknownValue(8));
+    expect_rejected_in::<_, KeyShare>(&rt, alloc, &8, &[0, 0x18], Error::UnknownValue(8));
     let empty = [0, 0x1d, 0, 0];
     let invalid = Error::InvalidVectorLength;
-    expect_refused_in::<_, KeyShare>(&rt, alloc, &SERVER_HELLO, &empty, invalid);
+    expect_rejected_in::<_, KeyShare>(&rt, alloc, &SERVER_HELLO, &empty, invalid);
     Ok(())
 }

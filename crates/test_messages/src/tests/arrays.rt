@@ -1,5 +1,5 @@
 //! Arrays of what isn't a byte, by their bytes (RFC 8446, section 3.4).
-use crate::tests::each_call::{expect_encoded_as, expect_refused};
+use crate::tests::each_call::{expect_encoded_as, expect_rejected};
 use crate::tests::{holds, same};
 use messages_of_each_shape::{Line, Pixel, ThreeData};
 use std::alloc::Global;
@@ -34,7 +34,7 @@ fn data_of_three_bytes(rt: HostRuntime) -> Result<(), Fail> {
         &[1, 2, 3, 4, 5, 6],
         &[1, 2, 3, 4, 5, 6, 7, 8],
     ] {
-        expect_refused::<ThreeData>(&rt, alloc, cut, Error::EndOfStream);
+        expect_rejected::<ThreeData>(&rt, alloc, cut, Error::EndOfStream);
     }
     Ok(())
 }
@@ -59,6 +59,6 @@ fn structs(rt: HostRuntime) -> Result<(), Fail> {
         after: 6,
     };
     expect_encoded_as(&rt, alloc, &line, &[0, 0, 0, 1, 2, 0, 3, 4, 0, 5, 0, 6])?;
-    expect_refused::<Line>(&rt, alloc, &[0, 0, 0, 1, 2, 0, 3, 4], Error::EndOfStream);
+    expect_rejected::<Line>(&rt, alloc, &[0, 0, 0, 1, 2, 0, 3, 4], Error::EndOfStream);
     Ok(())
 }

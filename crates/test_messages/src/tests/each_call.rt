@@ -81,18 +81,18 @@ fn expect_cut_off<T: Deserialize + Validate>(rt: &impl Abort, alloc: Global, byt
 }
 
 // Each decoder rejects the bytes with this error.
-pub(super) fn expect_refused<T: Deserialize + Validate>(
+pub(super) fn expect_rejected<T: Deserialize + Validate>(
     rt: &impl Abort,
     alloc: Global,
     bytes: &[u8],
     error: Error,
 ) {
-    expect_refused_by::<T>(rt, alloc, bytes, error, error);
+    expect_rejected_by::<T>(rt, alloc, bytes, error, error);
 }
 
 // To the end of the bytes, a slice's decoder rejects them with one error, as does validation, and a
 // source's with another.
-pub(super) fn expect_refused_by<T: Deserialize + Validate>(
+pub(super) fn expect_rejected_by<T: Deserialize + Validate>(
     rt: &impl Abort,
     alloc: Global,
     bytes: &[u8],

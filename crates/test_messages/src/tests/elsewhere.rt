@@ -1,5 +1,5 @@
 //! Messages in a context: their tag is a number or a name of another struct.
-use crate::tests::in_context::{expect_does_not_fit_in, expect_refused_in, expect_spelled_in};
+use crate::tests::in_context::{expect_does_not_fit_in, expect_rejected_in_by, expect_spelled_in};
 use messages_of_each_shape::{ByVersion, CertificateType, CertificateTypeData, Entries, Entry};
 use std::alloc::Global;
 use std::test::Fail;
@@ -43,7 +43,7 @@ fn by_a_number(rt: HostRuntime) -> Result<(), Fail> {
 // A tag without a case, a byte after each case, and a length of `tail` that is one too great and
 // one too small.
 #[test]
-fn refused_by_a_number(rt: HostRuntime) -> Result<(), Fail> {
+fn rejected_by_a_number(rt: HostRuntime) -> Result<(), Fail> {
     let alloc = rt.alloc();
     for (version, bytes, of_slice, of_source) in [
         (
@@ -65,7 +65,7 @@ fn refused_by_a_number(rt: HostRuntime) -> Result<(), Fail> {
         (2, &[0, 0, 0, 1, 0, 7, 8], TRAILING, TRAILING),
         (2, &[0, 0, 0, 1, 3, 7, 8], NOT_THERE, END),
     ] {
-        expect_refused_in::<_, ByVersion>(&rt, alloc, &version, bytes, of_slice, of_source);
+        expect_rejected_in_by::<_, ByVersion>(&rt, alloc, &version, bytes, of_slice, of_source);
     }
     Ok(())
 }
@@ -132,7 +132,7 @@ fn among_fields(rt: HostRuntime) -> Result<(), Fail> {
 // A certificate of no bytes; then lengths of the select's field that are one too great and one too small, so that what
 // comes after it isn't `second` and `last`; the bytes of the other case; and a byte after all.
 #[test]
-fn refused_among_fields(rt: HostRuntime) -> Result<(), Fail> {
+fn rejected_among_fields(rt: HostRuntime) -> Result<(), Fail> {
     let alloc = rt.alloc();
     for (kind, bytes, of_slice, of_source) in [
         (X509, [1, 0, 0, 0, 0, 3, 1, 4].as_slice(), LENGTH, LENGTH),
@@ -150,7 +150,7 @@ fn refused_among_fields(rt: HostRuntime) -> Result<(), Fail> {
             TRAILING,
         ),
     ] {
-        expect_refused_in::<_, Entry>(&rt, alloc, &kind, bytes, of_slice, of_source);
+        expect_rejected_in_by::<_, Entry>(&rt, alloc, &kind, bytes, of_slice, of_source);
     }
     Ok(())
 }
@@ -216,7 +216,7 @@ fn no_entry_and_entries_of_two_cases(rt: HostRuntime) -> Result<(), Fail> {
 // A list that ends within its entry, one that goes on after it, and none, with bytes after it; then
 // the first two of keys, and bytes of the other case.
 #[test]
-fn refused_lists(rt: HostRuntime) -> Result<(), Fail> {
+fn rejected_lists(rt: HostRuntime) -> Result<(), Fail> {
     let alloc = rt.alloc();
     for (kind, bytes, of_slice, of_source) in [
         (
@@ -236,7 +236,7 @@ fn refused_lists(rt: HostRuntime) -> Result<(), Fail> {
         (RAW, &[1, 0, 0, 7, 1, 1, 10, 0, 3, 0], END, END),
         (X509, &[1, 0, 0, 6, 1, 1, 10, 0, 3, 0], END, END),
     ] {
-        expect_refused_in::<_, Entries>(&rt, alloc, &kind, bytes, of_slice, of_source);
+        expect_rejected_in_by::<_, Entries>(&rt, alloc, &kind, bytes, of_slice, of_source);
     }
     Ok(())
 }

@@ -1,5 +1,5 @@
 //! Messages whose parts are on a tag in a field before them.
-use crate::tests::each_call::{expect_encoded_as, expect_refused};
+use crate::tests::each_call::{expect_encoded_as, expect_rejected};
 use crate::tests::{expect_does_not_fit, one_byte, same};
 use messages_of_each_shape::{
     Bearer, BodyKind, BodyKindData, ByVersion, Carrier, Header, KindBody, NameType, NameTypeData,
@@ -46,7 +46,7 @@ fn a_tag_before_what_it_decides(rt: HostRuntime) -> Result<(), Fail> {
         body: BodyKindData::File(one_byte(alloc, 1)?),
     };
     expect_does_not_fit(&rt, alloc, &carrier(alloc, file)?);
-    expect_refused::<Carrier>(&rt, alloc, &[3, 9], Error::UnknownValue(3));
+    expect_rejected::<Carrier>(&rt, alloc, &[3, 9], Error::UnknownValue(3));
     Ok(())
 }
 
@@ -71,7 +71,7 @@ fn a_struct_before_what_its_tag_decides(rt: HostRuntime) -> Result<(), Fail> {
     let other = bearer(alloc, 7, NameTypeData::Case7(one_byte(alloc, 0xb1)?))?;
     expect_encoded_as(&rt, alloc, &other, &[5, 1, 7, 1, 0xb1, 1, 0xaa])?;
     expect_does_not_fit(&rt, alloc, &bearer(alloc, 7, NameTypeData::HostName(8))?);
-    expect_refused::<Bearer>(&rt, alloc, &[5, 1, 9, 8, 1, 0xaa], Error::UnknownValue(9));
+    expect_rejected::<Bearer>(&rt, alloc, &[5, 1, 9, 8, 1, 0xaa], Error::UnknownValue(9));
     Ok(())
 }
 
@@ -91,6 +91,6 @@ fn a_number_before_what_it_decides(rt: HostRuntime) -> Result<(), Fail> {
         },
     };
     expect_encoded_as(&rt, alloc, &value, &[0, 2, 0, 0, 0, 0, 1, 1, 0xb1, 6])?;
-    expect_refused::<Versioned>(&rt, alloc, &[0, 4, 0], Error::UnknownValue(4));
+    expect_rejected::<Versioned>(&rt, alloc, &[0, 4, 0], Error::UnknownValue(4));
     Ok(())
 }

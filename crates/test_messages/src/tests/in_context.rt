@@ -82,7 +82,7 @@ pub(super) fn expect_does_not_fit_in<C: Size, T: SerializeFor<C>>(
 
 // To the end of the bytes, a slice's decoder rejects them with one error, as does validation, and a
 // source's with another.
-pub(super) fn expect_refused_in<C: Keyed, T: DeserializeFor<C> + ValidateFor<C>>(
+pub(super) fn expect_rejected_in_by<C: Keyed, T: DeserializeFor<C> + ValidateFor<C>>(
     rt: &impl Abort,
     alloc: Global,
     context: &C,

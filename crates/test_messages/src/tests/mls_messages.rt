@@ -199,7 +199,7 @@ static COMMIT_LENGTHS: [(usize, &[Error]); 24] = [
 static COMMIT_TAGS: [usize; 10] = [1, 3, 14, 21, 23, 25, 30, 34, 42, 68];
 
 // Read by each decoder, and written again to the same bytes.
-fn is_message(rt: &impl Abort, alloc: Global, bytes: &[u8]) -> Result<MLSMessage, Fail> {
+fn expect_message(rt: &impl Abort, alloc: Global, bytes: &[u8]) -> Result<MLSMessage, Fail> {
     let message = MLSMessage::tls_deserialize_exact_bytes(alloc, bytes)?;
     expect_encoded_as(rt, alloc, &message, bytes)?;
     Ok(message)
@@ -208,19 +208,19 @@ fn is_message(rt: &impl Abort, alloc: Global, bytes: &[u8]) -> Result<MLSMessage
 #[test]
 fn each_wire_format(rt: HostRuntime) -> Result<(), Fail> {
     let alloc = rt.alloc();
-    let message = is_message(&rt, alloc, &COMMIT)?;
+    let message = expect_message(&rt, alloc, &COMMIT)?;
     holds(
         &rt,
         matches!(message.body, MLSMessageBody::MlsPublicMessage(_)),
     );
-    let message = is_message(&rt, alloc, &PRIVATE_MESSAGE)?;
+    let message = expect_message(&rt, alloc, &PRIVATE_MESSAGE)?;
     holds(
         &rt,
         matches!(message.body, MLSMessageBody::MlsPrivateMessage(_)),
     );
-    let message = is_message(&rt, alloc, &WELCOME)?;
+    let message = expect_message(&rt, alloc, &WELCOME)?;
     holds(&rt, matches!(message.body, MLSMessageBody::MlsWelcome(_)));
-    let message = is_message(&rt, alloc, &GROUP_INFO)?;
+    let message = expect_message(&rt, alloc, &GROUP_INFO)?;
     holds(&rt, matches!(message.body, MLSMessageBody::MlsGroupInfo(_)));
     Ok(())
 }
@@ -228,7 +228,7 @@ fn each_wire_format(rt: HostRuntime) -> Result<(), Fail> {
 #[test]
 fn a_key_package(rt: HostRuntime) -> Result<(), Fail> {
     let alloc = rt.alloc();
-    let message = is_message(&rt, alloc, &KEY_PACKAGE)?;
+    let message = expect_message(&rt, alloc, &KEY_PACKAGE)?;
     let MLSMessageBody::MlsKeyPackage(package) = message.body else {
         panic!(rt; "no key package");
     };
@@ -280,7 +280,7 @@ fn values_are_shown_by_their_fields(rt: HostRuntime) -> Result<(), Fail> {
 }
 
 // What the exact forms answer, from a slice and from a source.
-fn refusals(alloc: Global, bytes: &[u8]) -> [Option<Error>; 2] {
+fn rejections(alloc: Global, bytes: &[u8]) -> [Option<Error>; 2] {
     [
         MLSMessage::tls_deserialize_exact_bytes(alloc, bytes).err(),
         MLSMessage::tls_deserialize_exact(alloc, bytes).err(),
@@ -306,7 +306,7 @@ fn replaced(
 
 // With others in place of the byte at a position, the exact forms reject the bytes with these
 // errors.
-fn is_reported(
+fn expect_rejected_with(
     rt: &impl Abort,
     alloc: Global,
     spelled: &[u8],
@@ -315,11 +315,11 @@ fn is_reported(
     expected: [Error; 2],
 ) -> Result<(), Fail> {
     let bytes = replaced(rt, alloc, spelled, at, others)?;
-    same_at(rt, at, refusals(alloc, &bytes), expected.map(Some));
+    same_at(rt, at, rejections(alloc, &bytes), expected.map(Some));
     Ok(())
 }
 
-fn wrong_lengths_are_reported(
+fn expect_wrong_lengths_rejected(
     rt: &impl Abort,
     alloc: Global,
     spelled: &[u8],
@@ -333,15 +333,15 @@ fn wrong_lengths_are_reported(
             panic!(rt; "no byte at {at}");
         };
         let one_more = [length.wrapping_add(1)];
-        is_reported(rt, alloc, spelled, at, &one_more, [*greater, *greater_read])?;
+        expect_rejected_with(rt, alloc, spelled, at, &one_more, [*greater, *greater_read])?;
         let one_less = [length.wrapping_sub(1)];
-        is_reported(rt, alloc, spelled, at, &one_less, [*less, *less_read])?;
-        is_reported(rt, alloc, spelled, at, &[0x40, length], [LENGTH, LENGTH])?;
+        expect_rejected_with(rt, alloc, spelled, at, &one_less, [*less, *less_read])?;
+        expect_rejected_with(rt, alloc, spelled, at, &[0x40, length], [LENGTH, LENGTH])?;
     }
     Ok(())
 }
 
-fn unknown_tags_are_reported(
+fn expect_unknown_tags_rejected(
     rt: &impl Abort,
     alloc: Global,
     spelled: &[u8],
@@ -354,19 +354,19 @@ fn unknown_tags_are_reported(
         } else {
             Error::UnknownValue(0x77)
         };
-        is_reported(rt, alloc, spelled, at, &[0x77], [error, error])?;
+        expect_rejected_with(rt, alloc, spelled, at, &[0x77], [error, error])?;
     }
     Ok(())
 }
 
 #[test]
 fn wrong_lengths(rt: HostRuntime) -> Result<(), Fail> {
-    wrong_lengths_are_reported(&rt, rt.alloc(), &KEY_PACKAGE, &KEY_PACKAGE_LENGTHS)?;
-    wrong_lengths_are_reported(&rt, rt.alloc(), &COMMIT, &COMMIT_LENGTHS)
+    expect_wrong_lengths_rejected(&rt, rt.alloc(), &KEY_PACKAGE, &KEY_PACKAGE_LENGTHS)?;
+    expect_wrong_lengths_rejected(&rt, rt.alloc(), &COMMIT, &COMMIT_LENGTHS)
 }
 
 #[test]
 fn unknown_tags(rt: HostRuntime) -> Result<(), Fail> {
-    unknown_tags_are_reported(&rt, rt.alloc(), &KEY_PACKAGE, &KEY_PACKAGE_TAGS, None)?;
-    unknown_tags_are_reported(&rt, rt.alloc(), &COMMIT, &COMMIT_TAGS, Some(34))
+    expect_unknown_tags_rejected(&rt, rt.alloc(), &KEY_PACKAGE, &KEY_PACKAGE_TAGS, None)?;
+    expect_unknown_tags_rejected(&rt, rt.alloc(), &COMMIT, &COMMIT_TAGS, Some(34))
 }

@@ -1,5 +1,5 @@
 //! Parts of messages of MLS (RFC 9420), each alone, encoded field by field.
-use crate::tests::each_call::{expect_encoded_as, expect_refused, expect_written};
+use crate::tests::each_call::{expect_encoded_as, expect_rejected, expect_written};
 use crate::tests::one_byte;
 use mls::{
     Certificate, CipherSuite, Commit, Credential, GroupContext, InterimTranscriptHashInput,
@@ -36,8 +36,8 @@ fn cipher_suites(rt: HostRuntime) -> Result<(), Fail> {
 fn versions(rt: HostRuntime) -> Result<(), Fail> {
     let alloc = rt.alloc();
     expect_encoded_as(&rt, alloc, &ProtocolVersionMls10::Mls10, &[0, 1])?;
-    expect_refused::<ProtocolVersionMls10>(&rt, alloc, &[1, 0], Error::UnknownValue(256));
-    expect_refused::<GroupContext>(&rt, alloc, &[0, 3, 0, 1], Error::UnknownValue(3));
+    expect_rejected::<ProtocolVersionMls10>(&rt, alloc, &[1, 0], Error::UnknownValue(256));
+    expect_rejected::<GroupContext>(&rt, alloc, &[0, 3, 0, 1], Error::UnknownValue(3));
     Ok(())
 }
 
@@ -50,9 +50,9 @@ fn credentials(rt: HostRuntime) -> Result<(), Fail> {
     let both = [certificate(alloc, 5)?, certificate(alloc, 6)?];
     let x509 = Credential::X509(Vec::from_array(alloc, both)?);
     expect_encoded_as(&rt, alloc, &x509, &[0, 2, 4, 1, 5, 1, 6])?;
-    expect_refused::<Credential>(&rt, alloc, &[0, 0], Error::UnknownValue(0));
-    expect_refused::<Credential>(&rt, alloc, &[0, 6, 1, 9], Error::UnknownValue(6));
-    expect_refused::<Credential>(&rt, alloc, &[0, 1, 0x40, 1, 9], Error::InvalidVectorLength);
+    expect_rejected::<Credential>(&rt, alloc, &[0, 0], Error::UnknownValue(0));
+    expect_rejected::<Credential>(&rt, alloc, &[0, 6, 1, 9], Error::UnknownValue(6));
+    expect_rejected::<Credential>(&rt, alloc, &[0, 1, 0x40, 1, 9], Error::InvalidVectorLength);
     Ok(())
 }
 
@@ -66,7 +66,7 @@ fn sources_of_leaf_nodes(rt: HostRuntime) -> Result<(), Fail> {
     let package = LeafNodeOrigin::KeyPackage(lifetime());
     let spelled = [1, 0, 0, 0, 0, 0, 0, 0, 1, 0, 0, 0, 0, 0, 0, 0, 2];
     expect_encoded_as(&rt, alloc, &package, &spelled)?;
-    expect_refused::<LeafNodeOrigin>(&rt, alloc, &[4], Error::UnknownValue(4));
+    expect_rejected::<LeafNodeOrigin>(&rt, alloc, &[4], Error::UnknownValue(4));
     Ok(())
 }
 

@@ -45,7 +45,7 @@ fn framed_content(
 }
 
 // Read, and written again to the same bytes after others; no other content type has it.
-fn comes_back(
+fn expect_round_trip(
     rt: &impl Abort,
     alloc: Global,
     content_type: ContentType,
@@ -68,7 +68,7 @@ fn comes_back(
 fn a_commit(rt: HostRuntime) -> Result<(), Fail> {
     let alloc = rt.alloc();
     let bytes = part(&rt, alloc, &COMMIT, 22, 92, &[0, 0, 0])?;
-    let found = comes_back(&rt, alloc, ContentType::Commit, &bytes)?;
+    let found = expect_round_trip(&rt, alloc, ContentType::Commit, &bytes)?;
     same(&rt, found.padding, 3);
     let expected = Commit::tls_deserialize_exact_bytes(alloc, &COMMIT[22..88])?;
     let PrivateMessageContent { content, auth } = &found.content;
@@ -84,17 +84,17 @@ fn a_commit(rt: HostRuntime) -> Result<(), Fail> {
 #[test]
 fn an_application(rt: HostRuntime) -> Result<(), Fail> {
     let alloc = rt.alloc();
-    let padded = comes_back(&rt, alloc, ContentType::Application, &APPLICATION)?;
+    let padded = expect_round_trip(&rt, alloc, ContentType::Application, &APPLICATION)?;
     same(&rt, padded.padding, 2);
     same(&rt, &padded.content.auth.confirmation_tag, &None);
-    let found = comes_back(&rt, alloc, ContentType::Application, &APPLICATION[..5])?;
+    let found = expect_round_trip(&rt, alloc, ContentType::Application, &APPLICATION[..5])?;
     same(&rt, found.padding, 0);
     same(&rt, &padded.content, &found.content);
     Ok(())
 }
 
 #[test]
-fn other_contents_are_refused(rt: HostRuntime) -> Result<(), Fail> {
+fn other_contents_are_rejected(rt: HostRuntime) -> Result<(), Fail> {
     let alloc = rt.alloc();
     let bytes = part(&rt, alloc, &APPLICATION, 0, 6, &[1])?;
     let other = read(alloc, ContentType::Application, &bytes).err();

@@ -1,5 +1,5 @@
 //! Messages with a select in its length, or with one case alone; and names that a type or a field can't have.
-use crate::tests::each_call::{expect_encoded_as, expect_refused, expect_refused_by};
+use crate::tests::each_call::{expect_encoded_as, expect_rejected, expect_rejected_by};
 use crate::tests::one_byte;
 use messages_of_each_shape::{
     CertificateType, EmptyType, FormX04, Header, MagicX0102, NameTypeHostName, Point, ServerName,
@@ -69,7 +69,7 @@ static SIZED: [(&[u8], Error, Error); 11] = [
 fn cases_in_other_lengths(rt: HostRuntime) {
     let alloc = rt.alloc();
     for (bytes, of_slice, of_source) in SIZED {
-        expect_refused_by::<SizedType>(&rt, alloc, bytes, of_slice, of_source);
+        expect_rejected_by::<SizedType>(&rt, alloc, bytes, of_slice, of_source);
     }
 }
 
@@ -88,7 +88,7 @@ fn one_case_of_one_field(rt: HostRuntime) -> Result<(), Fail> {
         (&[0, 0, 3, 0x68, 0x69], END),
         (&[0, 0, 1, 0x68, 0x69], TRAILING),
     ] {
-        expect_refused::<ServerName>(&rt, alloc, bytes, error);
+        expect_rejected::<ServerName>(&rt, alloc, bytes, error);
     }
     Ok(())
 }
@@ -113,7 +113,7 @@ fn one_case_of_two_fields(rt: HostRuntime) -> Result<(), Fail> {
         (&[4, 1, 7, 2, 8], NOT_THERE, END),
         (&[4, 1, 7, 0, 8], TRAILING, TRAILING),
     ] {
-        expect_refused_by::<Point>(&rt, alloc, bytes, of_slice, of_source);
+        expect_rejected_by::<Point>(&rt, alloc, bytes, of_slice, of_source);
     }
     Ok(())
 }
@@ -137,7 +137,7 @@ fn names_and_constants(rt: HostRuntime) -> Result<(), Fail> {
         (&[0, 7, 3, 254, 253, 1, 2, 8, 9], 0x03fe),
         (&[2, 7, 3, 254, 253, 1, 2, 8, 9], 0xfd01),
     ] {
-        expect_refused::<SessionTicket>(&rt, alloc, bytes, Error::UnknownValue(value));
+        expect_rejected::<SessionTicket>(&rt, alloc, bytes, Error::UnknownValue(value));
     }
     Ok(())
 }
@@ -158,7 +158,7 @@ fn lists_of_options_of_lists(rt: HostRuntime) -> Result<(), Fail> {
         (&[5, 1, 3, 0, 5, 0], END, END),
         (&[5, 2, 2, 0, 5, 0], option, option),
     ] {
-        expect_refused_by::<Trees>(&rt, alloc, bytes, of_slice, of_source);
+        expect_rejected_by::<Trees>(&rt, alloc, bytes, of_slice, of_source);
     }
     Ok(())
 }
@@ -172,10 +172,10 @@ fn headers_and_types(rt: HostRuntime) -> Result<(), Fail> {
         rest_: one_byte(alloc, 7)?,
     };
     expect_encoded_as(&rt, alloc, &header, &[1, 2, 1, 7])?;
-    expect_refused_by::<Header>(&rt, alloc, &[1, 2, 2, 7], NOT_THERE, END);
-    expect_refused::<Header>(&rt, alloc, &[1, 2, 0, 7], TRAILING);
+    expect_rejected_by::<Header>(&rt, alloc, &[1, 2, 2, 7], NOT_THERE, END);
+    expect_rejected::<Header>(&rt, alloc, &[1, 2, 0, 7], TRAILING);
     expect_encoded_as(&rt, alloc, &CertificateType::X509, &[0])?;
     expect_encoded_as(&rt, alloc, &CertificateType::RawPublicKey, &[2])?;
-    expect_refused::<CertificateType>(&rt, alloc, &[1], Error::UnknownValue(1));
+    expect_rejected::<CertificateType>(&rt, alloc, &[1], Error::UnknownValue(1));
     Ok(())
 }

@@ -1,5 +1,5 @@
 //! Messages of shapes that those of TLS 1.3 and of MLS lack.
-use crate::tests::each_call::{expect_encoded_as, expect_refused, expect_written};
+use crate::tests::each_call::{expect_encoded_as, expect_rejected, expect_written};
 use crate::tests::one_byte;
 use messages_of_each_shape::{
     Bounded, ContentTypeData, Framed, Identity, Level, Lists, NameType, NodeTBS, NodeTBSOrigin,
@@ -18,7 +18,7 @@ fn values(rt: HostRuntime) -> Result<(), Fail> {
     expect_encoded_as(&rt, alloc, &Level::Low, &[0, 1])?;
     expect_encoded_as(&rt, alloc, &Level::Middle, &[1, 0])?;
     expect_encoded_as(&rt, alloc, &Level::High, &[0xff, 0xff])?;
-    expect_refused::<Level>(&rt, alloc, &[0, 2], Error::UnknownValue(2));
+    expect_rejected::<Level>(&rt, alloc, &[0, 2], Error::UnknownValue(2));
     expect_encoded_as(&rt, alloc, &NameType::HOST_NAME, &[0])?;
     expect_encoded_as(&rt, alloc, &NameType(6), &[6])?;
     Ok(())
@@ -41,8 +41,8 @@ fn tags(rt: HostRuntime) -> Result<(), Fail> {
         &[0, 4, 2, 1, 0, 1, 0xaa, 0, 0, 0, 9, 1, 1, 0xbb],
     )?;
     expect_encoded_as(&rt, alloc, &Identity::Anonymous, &[0, 5])?;
-    expect_refused::<Identity>(&rt, alloc, &[0, 0], Error::UnknownValue(0));
-    expect_refused::<Identity>(&rt, alloc, &[0, 6, 1, 9], Error::UnknownValue(6));
+    expect_rejected::<Identity>(&rt, alloc, &[0, 0], Error::UnknownValue(0));
+    expect_rejected::<Identity>(&rt, alloc, &[0, 6, 1, 9], Error::UnknownValue(6));
     Ok(())
 }
 
@@ -133,8 +133,8 @@ fn bounds(rt: HostRuntime) -> Result<(), Fail> {
         suites: TlsVec::new(Vec::from_array(alloc, [3])?),
     };
     expect_encoded_as(&rt, alloc, &bounded, &[1, 9, 0, 2, 0, 3])?;
-    for refused in [[33].as_slice(), &[0, 0, 0], &[0, 0, 1, 3], &[0, 0xff, 0xff]] {
-        expect_refused::<Bounded>(&rt, alloc, refused, Error::InvalidVectorLength);
+    for rejected in [[33].as_slice(), &[0, 0, 0], &[0, 0, 1, 3], &[0, 0xff, 0xff]] {
+        expect_rejected::<Bounded>(&rt, alloc, rejected, Error::InvalidVectorLength);
     }
     Ok(())
 }

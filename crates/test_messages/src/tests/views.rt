@@ -12,7 +12,7 @@ use mls_tree::{
     LeafNodeView, LifetimeView, ProtocolVersion,
 };
 use tls_codec::{Always, VLBytes, When};
-use tls_codec_cases::Is;
+use tls_codec_cases::{By, Is};
 use tls_codec_views::{Encoded, EncodedFor};
 
 #[test]
@@ -128,6 +128,29 @@ fn what_a_content_type_decides(rt: HostRuntime) {
     let (signature, confirmation) = tags_of(&auth.parts());
     same(&rt, signature, [0xe1u8].as_slice());
     same(&rt, confirmation, Some([0xe2u8].as_slice()));
+}
+
+type TagOfMember = By<SenderType, When<Is<1>, MAC>>;
+
+fn membership_tag_of<'a>(part: &EncodedFor<'a, Sender, TagOfMember>) -> Option<&'a [u8]> {
+    let tag = part.held();
+    match tag.payload() {
+        Some(tag) => Some(tag.content()),
+        None => None,
+    }
+}
+
+// A member's message has a membership tag, and no other sender's has one (section 6.2).
+#[test]
+fn a_tag_that_the_sender_decides(rt: HostRuntime) {
+    let Ok(tag) = EncodedFor::<Sender, TagOfMember>::new(&Sender::Member(3), &[1, 0xe3]) else {
+        panic!(rt; "no tag");
+    };
+    same(&rt, membership_tag_of(&tag), Some([0xe3u8].as_slice()));
+    let Ok(nothing) = EncodedFor::<Sender, TagOfMember>::new(&Sender::NewMemberCommit, &[]) else {
+        panic!(rt; "a tag");
+    };
+    same(&rt, membership_tag_of(&nothing), None);
 }
 
 // What a private message encrypts, in the context of its content type (section 6.3.1).

@@ -22,7 +22,7 @@ pub(super) struct Row {
 }
 
 // A message that TLS 1.3 has not.
-pub(super) struct Refused {
+pub(super) struct Rejected {
     pub name: &'static str,
     pub digits: &'static [&'static str],
     pub error: Error,

@@ -4,14 +4,14 @@ use crate::tests::extensions::{Found, Place, is_retry, open_all};
 use std::alloc::Global;
 use std::process::Abort;
 use std::test::Fail;
-use test_support::each_call::{expect_encoded_as, expect_refused, round_trips};
+use test_support::each_call::{expect_encoded_as, expect_rejected, expect_round_trip};
 use test_support::rows::{done_at, same, same_at};
 use tls_codec::DeserializeBytes;
 use tls13::{Alert, AlertDescription, AlertLevel, Handshake, HandshakeType};
 
 // Opens each message of a run, and checks how many extensions these have and how many of them
 // RFC 8446 has.
-fn opens_run(
+fn expect_run(
     rt: &impl Abort,
     alloc: Global,
     rows: &[Row],
@@ -20,7 +20,7 @@ fn opens_run(
 ) -> Result<(), Fail> {
     let mut all = Found::new(alloc);
     for row in rows {
-        let found = opens_with_extensions(rt, alloc, row)?;
+        let found = expect_row(rt, alloc, row)?;
         all.types.extend_from_slice(&found.types)?;
         all.opened.extend_from_slice(&found.opened)?;
     }
@@ -29,9 +29,9 @@ fn opens_run(
     Ok(())
 }
 
-fn opens_with_extensions(rt: &impl Abort, alloc: Global, row: &Row) -> Result<Found, Fail> {
+fn expect_row(rt: &impl Abort, alloc: Global, row: &Row) -> Result<Found, Fail> {
     let bytes = bytes(rt, alloc, row.digits)?;
-    round_trips::<Handshake>(alloc, row.name, &bytes)?;
+    expect_round_trip::<Handshake>(alloc, row.name, &bytes)?;
     let message = done_at(
         row.name,
         Handshake::tls_deserialize_exact_bytes(alloc, &bytes),
@@ -53,46 +53,46 @@ fn opens_with_extensions(rt: &impl Abort, alloc: Global, row: &Row) -> Result<Fo
 
 #[test]
 fn basic(rt: HostRuntime) -> Result<(), Fail> {
-    opens_run(&rt, rt.alloc(), &basic::ROWS, 15, 7)
+    expect_run(&rt, rt.alloc(), &basic::ROWS, 15, 7)
 }
 
 #[test]
 fn hrr(rt: HostRuntime) -> Result<(), Fail> {
-    opens_run(&rt, rt.alloc(), &hrr::ROWS, 24, 14)
+    expect_run(&rt, rt.alloc(), &hrr::ROWS, 24, 14)
 }
 
 #[test]
 fn keyup(rt: HostRuntime) -> Result<(), Fail> {
-    opens_run(&rt, rt.alloc(), &keyup::ROWS, 11, 7)
+    expect_run(&rt, rt.alloc(), &keyup::ROWS, 11, 7)
 }
 
 #[test]
 fn mtls(rt: HostRuntime) -> Result<(), Fail> {
-    opens_run(&rt, rt.alloc(), &mtls::ROWS, 13, 9)
+    expect_run(&rt, rt.alloc(), &mtls::ROWS, 13, 9)
 }
 
 #[test]
 fn seed(rt: HostRuntime) -> Result<(), Fail> {
-    opens_run(&rt, rt.alloc(), &seed::ROWS, 14, 9)
+    expect_run(&rt, rt.alloc(), &seed::ROWS, 14, 9)
 }
 
 #[test]
 fn resume(rt: HostRuntime) -> Result<(), Fail> {
-    opens_run(&rt, rt.alloc(), &resume::ROWS, 17, 12)
+    expect_run(&rt, rt.alloc(), &resume::ROWS, 17, 12)
 }
 
 #[test]
 fn tls12(rt: HostRuntime) -> Result<(), Fail> {
-    opens_run(&rt, rt.alloc(), &tls12::ROWS, 11, 2)
+    expect_run(&rt, rt.alloc(), &tls12::ROWS, 11, 2)
 }
 
 // Messages of TLS 1.2 that TLS 1.3 has not.
 #[test]
 fn other_messages(rt: HostRuntime) -> Result<(), Fail> {
     let alloc = rt.alloc();
-    for row in &tls12::REFUSED {
+    for row in &tls12::REJECTED {
         let bytes = bytes(&rt, alloc, row.digits)?;
-        expect_refused::<Handshake>(alloc, row.name, &bytes, row.error)?;
+        expect_rejected::<Handshake>(alloc, row.name, &bytes, row.error)?;
     }
     Ok(())
 }

@@ -4,8 +4,8 @@ use crate::tests::captured::{bytes, hrr, tls12};
 use std::alloc::Global;
 use std::process::Abort;
 use std::test::Fail;
-use test_support::each_call::round_trips;
-use test_support::in_context::{expect_does_not_fit, expect_refused_in, round_trips_in};
+use test_support::each_call::expect_round_trip;
+use test_support::in_context::{expect_does_not_fit_in, expect_rejected_in, expect_round_trip_in};
 use test_support::rows::{done_at, same_at};
 use tls_codec::{DeserializeBytes, DeserializeBytesFor, Error, TlsByteVecU16};
 use tls13::{
@@ -87,7 +87,7 @@ fn open_each(
 ) -> Result<(), Fail> {
     for extension in extensions {
         found.types.push(extension.extension_type.0)?;
-        if opens_as_its_type(rt, alloc, place, extension)? {
+        if open_as_its_type(rt, alloc, place, extension)? {
             found.opened.push(extension.extension_type.0)?;
         }
     }
@@ -95,7 +95,7 @@ fn open_each(
 }
 
 // Whether RFC 8446 has a structure for the extension. It's opened then.
-fn opens_as_its_type(
+fn open_as_its_type(
     rt: &impl Abort,
     alloc: Global,
     place: &Place,
@@ -104,36 +104,38 @@ fn opens_as_its_type(
     let row = place.row;
     let bytes = extension.extension_data.as_slice();
     match extension.extension_type {
-        ExtensionType::SUPPORTED_GROUPS => round_trips::<NamedGroupList>(alloc, row, bytes)?,
+        ExtensionType::SUPPORTED_GROUPS => expect_round_trip::<NamedGroupList>(alloc, row, bytes)?,
         ExtensionType::SIGNATURE_ALGORITHMS | ExtensionType::SIGNATURE_ALGORITHMS_CERT => {
-            round_trips::<SignatureSchemeList>(alloc, row, bytes)?
+            expect_round_trip::<SignatureSchemeList>(alloc, row, bytes)?
         }
         ExtensionType::PRE_SHARED_KEY => {
-            round_trips_in::<_, PreSharedKeyExtension>(alloc, row, &place.kind, bytes)?
+            expect_round_trip_in::<_, PreSharedKeyExtension>(alloc, row, &place.kind, bytes)?
         }
         ExtensionType::EARLY_DATA => {
-            round_trips_in::<_, EarlyDataIndication>(alloc, row, &place.kind, bytes)?
+            expect_round_trip_in::<_, EarlyDataIndication>(alloc, row, &place.kind, bytes)?
         }
         ExtensionType::SUPPORTED_VERSIONS => {
-            round_trips_in::<_, SupportedVersions>(alloc, row, &place.kind, bytes)?
+            expect_round_trip_in::<_, SupportedVersions>(alloc, row, &place.kind, bytes)?
         }
-        ExtensionType::COOKIE => round_trips::<Cookie>(alloc, row, bytes)?,
+        ExtensionType::COOKIE => expect_round_trip::<Cookie>(alloc, row, bytes)?,
         ExtensionType::PSK_KEY_EXCHANGE_MODES => {
-            round_trips::<PskKeyExchangeModes>(alloc, row, bytes)?
+            expect_round_trip::<PskKeyExchangeModes>(alloc, row, bytes)?
         }
         ExtensionType::CERTIFICATE_AUTHORITIES => {
-            round_trips::<CertificateAuthoritiesExtension>(alloc, row, bytes)?
+            expect_round_trip::<CertificateAuthoritiesExtension>(alloc, row, bytes)?
         }
-        ExtensionType::OID_FILTERS => round_trips::<OIDFilterExtension>(alloc, row, bytes)?,
-        ExtensionType::POST_HANDSHAKE_AUTH => round_trips::<PostHandshakeAuth>(alloc, row, bytes)?,
-        ExtensionType::KEY_SHARE => opens_key_share(rt, alloc, place, bytes)?,
+        ExtensionType::OID_FILTERS => expect_round_trip::<OIDFilterExtension>(alloc, row, bytes)?,
+        ExtensionType::POST_HANDSHAKE_AUTH => expect_round_trip::<PostHandshakeAuth>(
+            alloc, row, bytes,
+        )?,
+        ExtensionType::KEY_SHARE => expect_key_share(rt, alloc, place, bytes)?,
         _ => return Ok(false),
     }
     Ok(true)
 }
 
 // Three structures by message (section 4.2.8).
-fn opens_key_share(
+fn expect_key_share(
     rt: &impl Abort,
     alloc: Global,
     place: &Place,
@@ -141,11 +143,11 @@ fn opens_key_share(
 ) -> Result<(), Fail> {
     let row = place.row;
     if place.retries {
-        round_trips::<KeyShareHelloRetryRequest>(alloc, row, bytes)
+        expect_round_trip::<KeyShareHelloRetryRequest>(alloc, row, bytes)
     } else if place.kind == HandshakeType::ServerHello {
-        round_trips::<KeyShareServerHello>(alloc, row, bytes)
+        expect_round_trip::<KeyShareServerHello>(alloc, row, bytes)
     } else {
-        round_trips::<KeyShareClientHello>(alloc, row, bytes)
+        expect_round_trip::<KeyShareClientHello>(alloc, row, bytes)
     }
 }
 
@@ -261,7 +263,7 @@ fn other_extensions(rt: HostRuntime) -> Result<(), Fail> {
             kind,
             retries: false,
         };
-        let opened = opens_as_its_type(&rt, alloc, &place, &extension)?;
+        let opened = open_as_its_type(&rt, alloc, &place, &extension)?;
         same_at(row, opened, true)?;
     }
     Ok(())
@@ -275,13 +277,13 @@ fn values_of_other_messages(rt: HostRuntime) -> Result<(), Fail> {
     let identity = PreSharedKeyExtension::ServerHello(0);
     let early = EarlyDataIndication::ClientHello(EmptyType {});
     let client = HandshakeType::ClientHello;
-    expect_does_not_fit(alloc, "a version", &client, &version)?;
-    expect_does_not_fit(alloc, "an identity", &client, &identity)?;
+    expect_does_not_fit_in(alloc, "a version", &client, &version)?;
+    expect_does_not_fit_in(alloc, "an identity", &client, &identity)?;
     for (row, kind) in [
         ("a server's", HandshakeType::EncryptedExtensions),
         ("a ticket's", HandshakeType::NewSessionTicket),
     ] {
-        expect_does_not_fit(alloc, row, &kind, &early)?;
+        expect_does_not_fit_in(alloc, row, &kind, &early)?;
     }
     Ok(())
 }
@@ -293,9 +295,9 @@ fn messages_without_the_extension(rt: HostRuntime) -> Result<(), Fail> {
     let server = HandshakeType::ServerHello;
     let finished = HandshakeType::Finished;
     let two = Error::UnknownValue(2);
-    expect_refused_in::<_, EarlyDataIndication>(alloc, "early data", &server, &[], two)?;
+    expect_rejected_in::<_, EarlyDataIndication>(alloc, "early data", &server, &[], two)?;
     let twenty = Error::UnknownValue(20);
-    expect_refused_in::<_, SupportedVersions>(alloc, "versions", &finished, &[3, 4], twenty)?;
-    expect_refused_in::<_, PreSharedKeyExtension>(alloc, "keys", &finished, &[0, 0], twenty)?;
+    expect_rejected_in::<_, SupportedVersions>(alloc, "versions", &finished, &[3, 4], twenty)?;
+    expect_rejected_in::<_, PreSharedKeyExtension>(alloc, "keys", &finished, &[0, 0], twenty)?;
     Ok(())
 }

@@ -3,7 +3,7 @@ use crate::tests::captured::{Row, bytes, mtls};
 use std::alloc::Global;
 use std::process::Abort;
 use std::test::Fail;
-use test_support::each_call::{expect_encoded_as, expect_refused_by};
+use test_support::each_call::{expect_encoded_as, expect_rejected_by};
 use test_support::rows::same_at;
 use tls_codec::{Deserialize, DeserializeBytes, Error, Serialize, TlsByteVecU24, U24};
 use tls13::{EndOfEarlyData, Handshake, KeyUpdate, KeyUpdateRequest};
@@ -48,7 +48,7 @@ fn small_messages(rt: HostRuntime) -> Result<(), Fail> {
 }
 
 // A source is read up to the length, and a slice has to have as many bytes first.
-static REFUSED: [(&str, &[u8], Error, Error); 15] = [
+static REJECTED: [(&str, &[u8], Error, Error); 15] = [
     ("KeyUpdate, 0", &[24, 0, 0, 0, 0], END, END),
     ("KeyUpdate, one more", &[24, 0, 0, 2, 0], END, TRAILING),
     (
@@ -100,10 +100,10 @@ static REFUSED: [(&str, &[u8], Error, Error); 15] = [
 ];
 
 #[test]
-fn refused_lengths(rt: HostRuntime) -> Result<(), Fail> {
+fn rejected_lengths(rt: HostRuntime) -> Result<(), Fail> {
     let alloc = rt.alloc();
-    for (row, bytes, of_slice, of_source) in REFUSED {
-        expect_refused_by::<Handshake>(alloc, row, bytes, of_slice, of_source)?;
+    for (row, bytes, of_slice, of_source) in REJECTED {
+        expect_rejected_by::<Handshake>(alloc, row, bytes, of_slice, of_source)?;
     }
     Ok(())
 }
@@ -123,14 +123,14 @@ fn a_finished_of_one_less(rt: HostRuntime) -> Result<(), Fail> {
 // Those of earlier versions, whose structure TLS 1.3 doesn't have, one of a transcript alone (254),
 // and others.
 #[test]
-fn refused_types(rt: HostRuntime) -> Result<(), Fail> {
+fn rejected_types(rt: HostRuntime) -> Result<(), Fail> {
     let alloc = rt.alloc();
     for kind in [
         0u8, 3, 6, 7, 9, 10, 12, 14, 16, 19, 21, 22, 23, 25, 254, 255,
     ] {
         let row = format!(in alloc; "type {kind}")?;
         let error = Error::UnknownValue(u64::from(kind));
-        expect_refused_by::<Handshake>(alloc, &row, &[kind, 0, 0, 0], error, error)?;
+        expect_rejected_by::<Handshake>(alloc, &row, &[kind, 0, 0, 0], error, error)?;
     }
     Ok(())
 }
@@ -140,12 +140,12 @@ fn refused_types(rt: HostRuntime) -> Result<(), Fail> {
 fn other_lengths(rt: HostRuntime) -> Result<(), Fail> {
     let alloc = rt.alloc();
     for row in &mtls::ROWS {
-        refuses_lengths(&rt, alloc, row)?;
+        expect_lengths_rejected(&rt, alloc, row)?;
     }
     Ok(())
 }
 
-fn refuses_lengths(rt: &impl Abort, alloc: Global, row: &Row) -> Result<(), Fail> {
+fn expect_lengths_rejected(rt: &impl Abort, alloc: Global, row: &Row) -> Result<(), Fail> {
     let message = bytes(rt, alloc, row.digits)?;
     let [kind, _, _, _, body @ ..] = message.as_slice() else {
         panic!(rt; "no length at {}", row.name);
@@ -173,7 +173,7 @@ fn refuses_lengths(rt: &impl Abort, alloc: Global, row: &Row) -> Result<(), Fail
     ] {
         let name = format!(in alloc; "{}, {altered}", row.name)?;
         let bytes = spelled(alloc, *kind, length, body)?;
-        expect_refused_by::<Handshake>(alloc, &name, &bytes, of_slice, of_source)?;
+        expect_rejected_by::<Handshake>(alloc, &name, &bytes, of_slice, of_source)?;
     }
     Ok(())
 }

@@ -1,6 +1,6 @@
 //! Hellos, alerts and lists of numbers of TLS 1.3 (RFC 8446).
 use std::test::Fail;
-use test_support::each_call::{expect_encoded_as, expect_refused};
+use test_support::each_call::{expect_encoded_as, expect_rejected};
 use tls_codec::{Error, TlsByteVec, TlsByteVecU16, TlsVec};
 use tls13::{
     Alert, AlertDescription, AlertLevel, ClientHello, Extension, ExtensionType, NamedGroup,
@@ -67,15 +67,15 @@ fn client_hellos(rt: HostRuntime) -> Result<(), Fail> {
     spelled.extend_from_slice(&[0, 0, 4, 0x13, 1, 0x13, 2, 1, 0])?;
     spelled.extend_from_slice(&[0, 11, 0, 43, 0, 3, 2, 3, 4, 0x0a, 0x0a, 0, 0])?;
     expect_encoded_as(alloc, "two extensions", &hello, &spelled)?;
-    for (row, refused) in [
+    for (row, rejected) in [
         ("a session of 33 bytes", [33].as_slice()),
         ("no cipher suite", &[0, 0, 0]),
         ("no compression method", &[0, 0, 2, 0x13, 1, 0]),
         ("extensions of 7 bytes", &[0, 0, 2, 0x13, 1, 1, 0, 0, 7]),
     ] {
         spelled.truncate(after);
-        spelled.extend_from_slice(refused)?;
-        expect_refused::<ClientHello>(alloc, row, &spelled, Error::InvalidVectorLength)?;
+        spelled.extend_from_slice(rejected)?;
+        expect_rejected::<ClientHello>(alloc, row, &spelled, Error::InvalidVectorLength)?;
     }
     Ok(())
 }
@@ -85,7 +85,7 @@ fn client_hellos(rt: HostRuntime) -> Result<(), Fail> {
 fn versions_of_hellos(rt: HostRuntime) -> Result<(), Fail> {
     let alloc = rt.alloc();
     let row = "TLS 1.0";
-    expect_refused::<ClientHello>(alloc, row, &[3, 1], Error::UnknownValue(769))?;
+    expect_rejected::<ClientHello>(alloc, row, &[3, 1], Error::UnknownValue(769))?;
     Ok(())
 }
 

@@ -52,8 +52,8 @@ fn printed_numbers(rt: HostRuntime) -> Result<(), Fail> {
 fn numbers(rt: HostRuntime) -> Result<(), Fail> {
     same(u8::from(HandshakeType::Finished), 20)?;
     same(HandshakeType::try_from(20u8), Ok(HandshakeType::Finished))?;
-    let refused = KeyUpdateRequest::try_from(2u8);
-    same(refused, Err(Error::UnknownValue(2)))?;
+    let rejected = KeyUpdateRequest::try_from(2u8);
+    same(rejected, Err(Error::UnknownValue(2)))?;
     same(u16::from(SignatureScheme::ED25519), 0x0807)?;
     same(SignatureScheme::from(0x0807), SignatureScheme::ED25519)?;
     Ok(())

@@ -1,7 +1,7 @@
 //! Records of TLS 1.3 (RFC 8446, section 5), and the messages that they have, as docs/TLS13.md reads them.
 use std::alloc::Global;
 use std::test::Fail;
-use test_support::each_call::{expect_encoded_as, expect_refused};
+use test_support::each_call::{expect_encoded_as, expect_rejected};
 use test_support::rows::same;
 use tls_codec::{DeserializeBytes, Error, Serialize, TlsByteVecU16, TlsByteVecU24, U24};
 use tls_codec_views::Encoded;
@@ -81,7 +81,7 @@ fn plaintexts(rt: HostRuntime) -> Result<(), Fail> {
     };
     expect_encoded_as(alloc, "another type", &record, &[25, 3, 3, 0, 1, 7])?;
     let bytes = [21, 3, 3, 0, 2, 2];
-    expect_refused::<TLSPlaintext>(alloc, "one byte of two", &bytes, Error::EndOfStream)?;
+    expect_rejected::<TLSPlaintext>(alloc, "one byte of two", &bytes, Error::EndOfStream)?;
     Ok(())
 }
 
@@ -106,7 +106,7 @@ fn ciphertexts(rt: HostRuntime) -> Result<(), Fail> {
             Error::UnknownValue(0x0301),
         ),
     ] {
-        expect_refused::<TLSCiphertext>(alloc, row, bytes, error)?;
+        expect_rejected::<TLSCiphertext>(alloc, row, bytes, error)?;
     }
     Ok(())
 }
@@ -145,8 +145,8 @@ fn records_without_a_message(rt: HostRuntime) -> Result<(), Fail> {
         (&[22, 3, 3, 0, 0], Error::InvalidVectorLength),
         (&[22, 3, 3, 0, 2, 24], Error::EndOfStream),
     ] {
-        let refused = take_record(alloc, &mut messages, bytes).err();
-        same(refused, Some(error))?;
+        let rejected = take_record(alloc, &mut messages, bytes).err();
+        same(rejected, Some(error))?;
     }
     same(messages.is_empty(), true)
 }
@@ -169,7 +169,7 @@ fn too_many_bytes(rt: HostRuntime) -> Result<(), Fail> {
     let alloc = rt.alloc();
     let mut messages = Vec::new(alloc);
     let too_long = Some(Error::InvalidVectorLength);
-    for (length, refused, kept) in [
+    for (length, rejected, kept) in [
         (16_385, too_long, 0),
         (16_384, None, 16_384),
         (16_384, None, 32_768),
@@ -184,7 +184,7 @@ fn too_many_bytes(rt: HostRuntime) -> Result<(), Fail> {
         };
         let bytes = record.tls_serialize_detached(alloc)?;
         let found = take_record(alloc, &mut messages, &bytes).err();
-        same(found, refused)?;
+        same(found, rejected)?;
         same(messages.len(), kept)?;
     }
     Ok(())

@@ -1,6 +1,6 @@
 // Texts over those of other crates.
 use super::shown::show;
-use super::{expects, same, same_at};
+use super::{expect_in_refusal, same, same_at};
 use std::alloc::{AllocError, Global};
 use std::process::Abort;
 use std::test::Fail;
@@ -85,7 +85,7 @@ fn what_other_crates_lack(rt: HostRuntime) -> Result<(), Fail> {
     same(&rt, file, 2);
     same(&rt, refusal.place.column, 19);
     same(&rt, refusal.found.as_str(), "T");
-    expects(&rt, &refusal, "in its own crate too");
+    expect_in_refusal(&rt, &refusal, "in its own crate too");
     Ok(())
 }
 
@@ -200,14 +200,14 @@ fn names_of_two_crates(rt: HostRuntime) -> Result<(), Fail> {
         Trouble::Refused(refusal) => {
             same(&rt, refusal.found.as_str(), "A");
             same(&rt, refusal.place.column, 19);
-            expects(&rt, &refusal, "has alone");
+            expect_in_refusal(&rt, &refusal, "has alone");
         }
         _ => panic!(rt; "not rejected"),
     }
     let own = "uint8 T; struct { select (H.t) { case 1: uint8 y; } } Q;";
     let (file, refusal) = rejected(&rt, alloc, &[header, own])?;
     same(&rt, file, 1);
-    expects(&rt, &refusal, "no tag of another crate");
+    expect_in_refusal(&rt, &refusal, "no tag of another crate");
     Ok(())
 }
 

@@ -1,6 +1,6 @@
 // Texts that are long, or that would become long.
 use super::notes::read;
-use super::{expects, made, refusal, same};
+use super::{expect_in_refusal, made, refusal, same};
 use std::alloc::{AllocError, Global};
 use std::test::Fail;
 use tlsgen_resolve::planning::plan_within;
@@ -50,7 +50,7 @@ fn many(rt: HostRuntime) -> Result<(), Fail> {
     ] {
         let refusal = refusal(&rt, alloc, text.as_str());
         same(&rt, refusal.found.as_str(), found);
-        expects(&rt, &refusal, word);
+        expect_in_refusal(&rt, &refusal, word);
     }
     Ok(())
 }
@@ -74,7 +74,7 @@ fn copies_are_counted(rt: HostRuntime) -> Result<(), Fail> {
     let trouble = error.trouble;
     match trouble {
         Trouble::Refused(refusal) => {
-            expects(&rt, &refusal, "a smaller text");
+            expect_in_refusal(&rt, &refusal, "a smaller text");
             Ok(())
         }
         _ => panic!(rt; "not refused"),
@@ -131,7 +131,7 @@ fn structs(alloc: Global, count: usize) -> Result<String, AllocError> {
 fn more_than_may_be_in_all(rt: HostRuntime) -> Result<(), Fail> {
     let text = structs(rt.alloc(), 21)?;
     let refusal = refusal(&rt, rt.alloc(), text.as_str());
-    expects(&rt, &refusal, "a smaller text");
+    expect_in_refusal(&rt, &refusal, "a smaller text");
     Ok(())
 }
 

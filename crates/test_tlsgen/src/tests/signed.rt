@@ -1,6 +1,6 @@
 // What is signed, as a struct of its own: plans, by hand, and texts that are rejected.
 use super::shown::show;
-use super::{expects, made, refusal, same_at};
+use super::{expect_in_refusal, made, refusal, same_at};
 use std::test::Fail;
 
 // Some of Certificate Transparency (RFC 6962, sections 3.2 and 3.5), with RFC 5246, section 4.7.
@@ -118,7 +118,7 @@ fn refusals(rt: HostRuntime) -> Result<(), Fail> {
         let refusal = refusal(&rt, rt.alloc(), text);
         same_at(&rt, *text, refusal.found.as_str(), *found);
         same_at(&rt, *text, refusal.place.column, *column);
-        expects(&rt, &refusal, *word);
+        expect_in_refusal(&rt, &refusal, *word);
     }
     Ok(())
 }

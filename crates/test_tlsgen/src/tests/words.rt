@@ -125,18 +125,18 @@ fn is_word(name: &String) -> bool {
 }
 
 // No name that is written is a keyword.
-fn check(rt: &impl Abort, text: &str, plan: &Plan) {
+fn expect_no_keywords(rt: &impl Abort, text: &str, plan: &Plan) {
     for alias in &plan.aliases {
         same_at(rt, text, is_word(&alias.name), false);
     }
     for message in &plan.messages {
         same_at(rt, text, is_word(&message.name), false);
         same_at(rt, text, is_word(&message.module), false);
-        check_body(rt, text, &message.body);
+        expect_no_keywords_in_body(rt, text, &message.body);
     }
 }
 
-fn check_body(rt: &impl Abort, text: &str, body: &Body) {
+fn expect_no_keywords_in_body(rt: &impl Abort, text: &str, body: &Body) {
     match body {
         Body::Values { values, .. } => {
             for value in values {
@@ -144,25 +144,25 @@ fn check_body(rt: &impl Abort, text: &str, body: &Body) {
                 same_at(rt, text, is_word(&value.constant), false);
             }
         }
-        Body::Fields(fields) => check_fields(rt, text, fields),
+        Body::Fields(fields) => expect_no_keywords_in_fields(rt, text, fields),
         Body::Choice { variants, .. } | Body::Sum { variants, .. } => {
             for variant in variants {
                 same_at(rt, text, is_word(&variant.name), false);
                 same_at(rt, text, is_word(&variant.constant), false);
-                check_fields(rt, text, &variant.fields);
+                expect_no_keywords_in_fields(rt, text, &variant.fields);
             }
         }
     }
 }
 
-fn check_fields(rt: &impl Abort, text: &str, fields: &[Member]) {
+fn expect_no_keywords_in_fields(rt: &impl Abort, text: &str, fields: &[Member]) {
     for member in fields {
         same_at(rt, text, is_word(&member.name), false);
     }
 }
 
 // A word as a type: a struct's, an enum's and another name.
-fn check_type(rt: &impl Abort, alloc: Global, word: &str) -> Result<(), Fail> {
+fn expect_names_a_type(rt: &impl Abort, alloc: Global, word: &str) -> Result<(), Fail> {
     for text in [
         format!(in alloc; "struct {{ uint8 a; }} {word};")?,
         format!(in alloc; "enum {{ a(1), (255) }} {word};")?,
@@ -170,13 +170,13 @@ fn check_type(rt: &impl Abort, alloc: Global, word: &str) -> Result<(), Fail> {
         format!(in alloc; "uint8 other; struct {{ other a; }} {word}; {word} b<V>;")?,
     ] {
         let plan = made(rt, alloc, text.as_str());
-        check(rt, text.as_str(), &plan);
+        expect_no_keywords(rt, text.as_str(), &plan);
     }
-    check_word(rt, alloc, word)
+    expect_names_a_field(rt, alloc, word)
 }
 
 // A word as a field, a value, a case and a select.
-fn check_word(rt: &impl Abort, alloc: Global, word: &str) -> Result<(), Fail> {
+fn expect_names_a_field(rt: &impl Abort, alloc: Global, word: &str) -> Result<(), Fail> {
     for text in [
         format!(in alloc; "struct {{ uint8 {word}; }} S;")?,
         format!(in alloc; "enum {{ {word}(1), (255) }} T;")?,
@@ -188,7 +188,7 @@ fn check_word(rt: &impl Abort, alloc: Global, word: &str) -> Result<(), Fail> {
         )?,
     ] {
         let plan = made(rt, alloc, text.as_str());
-        check(rt, text.as_str(), &plan);
+        expect_no_keywords(rt, text.as_str(), &plan);
     }
     Ok(())
 }
@@ -197,7 +197,7 @@ fn check_word(rt: &impl Abort, alloc: Global, word: &str) -> Result<(), Fail> {
 fn keywords_of_rust(rt: HostRuntime) -> Result<(), Fail> {
     for word in &KEYWORDS {
         if *word != "enum" && *word != "struct" {
-            check_type(&rt, rt.alloc(), word)?;
+            expect_names_a_type(&rt, rt.alloc(), word)?;
         }
     }
     Ok(())
@@ -206,7 +206,7 @@ fn keywords_of_rust(rt: HostRuntime) -> Result<(), Fail> {
 #[test]
 fn types_of_rust(rt: HostRuntime) -> Result<(), Fail> {
     for word in &TYPES {
-        check_type(&rt, rt.alloc(), word)?;
+        expect_names_a_type(&rt, rt.alloc(), word)?;
     }
     Ok(())
 }
@@ -214,10 +214,10 @@ fn types_of_rust(rt: HostRuntime) -> Result<(), Fail> {
 #[test]
 fn words_of_the_language(rt: HostRuntime) -> Result<(), Fail> {
     for word in &LANGUAGE {
-        check_type(&rt, rt.alloc(), word)?;
+        expect_names_a_type(&rt, rt.alloc(), word)?;
     }
     for word in &BUILT_IN {
-        check_word(&rt, rt.alloc(), word)?;
+        expect_names_a_field(&rt, rt.alloc(), word)?;
     }
     Ok(())
 }

@@ -23,7 +23,7 @@ type Digest = TlsByteVec<Within<u8, 32, 32>>;
 const OUTSIDE: Error = Error::InvalidVectorLength;
 
 // Each decoder rejects the bytes. A source has given only the length.
-fn expect_refused_after<T: Deserialize>(
+fn expect_rejected_after<T: Deserialize>(
     rt: &impl Abort,
     alloc: Global,
     bytes: &[u8],
@@ -40,12 +40,12 @@ fn expect_refused_after<T: Deserialize>(
 #[test]
 fn a_source_has_given_the_length_alone(rt: HostRuntime) -> Result<(), Fail> {
     let alloc = rt.alloc();
-    expect_refused_after::<Suites>(&rt, alloc, &[0, 0, 0x13], &[0x13])?;
-    expect_refused_after::<FewBytes>(&rt, alloc, &[0, 1, 7], &[7])?;
-    expect_refused_after::<FewBytes>(&rt, alloc, &[0xff, 0xff, 7], &[7])?;
-    expect_refused_after::<Methods>(&rt, alloc, &[0, 7], &[7])?;
+    expect_rejected_after::<Suites>(&rt, alloc, &[0, 0, 0x13], &[0x13])?;
+    expect_rejected_after::<FewBytes>(&rt, alloc, &[0, 1, 7], &[7])?;
+    expect_rejected_after::<FewBytes>(&rt, alloc, &[0xff, 0xff, 7], &[7])?;
+    expect_rejected_after::<Methods>(&rt, alloc, &[0, 7], &[7])?;
     for count in [31, 33] {
-        expect_refused_after::<Digest>(&rt, alloc, &[count, 7], &[7])?;
+        expect_rejected_after::<Digest>(&rt, alloc, &[count, 7], &[7])?;
     }
     Ok(())
 }

@@ -205,7 +205,7 @@ const IN_ONE: [u8; 6] = [9, 0, 7, 8, 0, 6];
 const IN_TWO: [u8; 2] = [9, 8];
 
 // By both engines the elements in this context that fill these bytes have these payloads.
-fn are_read(
+fn expect_elements(
     rt: &impl Abort,
     alloc: Global,
     context: u8,
@@ -238,8 +238,8 @@ fn are_read(
 #[test]
 fn elements_are_read_in_a_context(rt: HostRuntime) -> Result<(), Fail> {
     let alloc = rt.alloc();
-    are_read(&rt, alloc, 1, &IN_ONE, [Some(7), Some(6)])?;
-    are_read(&rt, alloc, 2, &IN_TWO, [None, None])?;
+    expect_elements(&rt, alloc, 1, &IN_ONE, [Some(7), Some(6)])?;
+    expect_elements(&rt, alloc, 2, &IN_TWO, [None, None])?;
     let mut turns = lists::Turns::new();
     let cut = lists::from_slice_for::<u8, Entry>(&1, alloc, &IN_ONE, 5, &mut turns);
     let not_filled = Error::DecodingError("elements do not fill the declared length");

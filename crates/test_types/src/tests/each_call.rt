@@ -1,5 +1,5 @@
 //! What each call makes of a value or of bytes.
-use super::outside::{expect_read_outside, expect_refused_outside};
+use super::outside::{expect_read_outside, expect_rejected_outside};
 use crate::tests::{holds, same};
 use std::alloc::{AllocError, Global};
 use std::process::Abort;
@@ -149,10 +149,10 @@ pub(super) fn expect_read_whole<T: Deserialize + DeserializeBytes + PartialEq>(
     longer.push(0xee)?;
     expect_read(rt, alloc, &longer, value, &[0xee])?;
     let trailing = Some(Error::TrailingData);
-    let refused = T::tls_deserialize_exact_bytes(alloc, &longer).err();
-    same(rt, refused, trailing);
-    let refused = T::tls_deserialize_exact(alloc, &longer).err();
-    same(rt, refused, trailing);
+    let rejected = T::tls_deserialize_exact_bytes(alloc, &longer).err();
+    same(rt, rejected, trailing);
+    let rejected = T::tls_deserialize_exact(alloc, &longer).err();
+    same(rt, rejected, trailing);
     Ok(())
 }
 
@@ -168,22 +168,22 @@ pub(super) fn expect_encoded_as<T: Serialize + Deserialize + DeserializeBytes + 
 }
 
 // Each decoder rejects the bytes with this error.
-pub(super) fn expect_refused<T: Deserialize + DeserializeBytes>(
+pub(super) fn expect_rejected<T: Deserialize + DeserializeBytes>(
     rt: &impl Abort,
     alloc: Global,
     bytes: &[u8],
     error: Error,
 ) {
-    let refused = T::tls_deserialize_bytes(alloc, bytes).err();
-    same(rt, refused, Some(error));
-    let refused = T::tls_deserialize_exact_bytes(alloc, bytes).err();
-    same(rt, refused, Some(error));
+    let rejected = T::tls_deserialize_bytes(alloc, bytes).err();
+    same(rt, rejected, Some(error));
+    let rejected = T::tls_deserialize_exact_bytes(alloc, bytes).err();
+    same(rt, rejected, Some(error));
     let mut source = bytes;
-    let refused = T::tls_deserialize(alloc, &mut source).err();
-    same(rt, refused, Some(error));
-    let refused = T::tls_deserialize_exact(alloc, bytes).err();
-    same(rt, refused, Some(error));
-    let refused = T::tls_deserialize(alloc, &mut Drip::new(bytes)).err();
-    same(rt, refused, Some(error));
-    expect_refused_outside::<T>(rt, alloc, bytes, error);
+    let rejected = T::tls_deserialize(alloc, &mut source).err();
+    same(rt, rejected, Some(error));
+    let rejected = T::tls_deserialize_exact(alloc, bytes).err();
+    same(rt, rejected, Some(error));
+    let rejected = T::tls_deserialize(alloc, &mut Drip::new(bytes)).err();
+    same(rt, rejected, Some(error));
+    expect_rejected_outside::<T>(rt, alloc, bytes, error);
 }

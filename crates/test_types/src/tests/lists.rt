@@ -1,7 +1,7 @@
 //! Lists that no bytes are read as, and parts that are borrowed.
 use super::NO_BYTES;
 use super::each_call::{
-    expect_read_whole, expect_refused, expect_too_long_alone, expect_written, filled,
+    expect_read_whole, expect_rejected, expect_too_long_alone, expect_written, filled,
 };
 use std::test::Fail;
 use tls_codec::{TlsByteVecU8, TlsVecU8, TlsVecU16, TlsVecU32};
@@ -13,7 +13,7 @@ fn lists_of_elements_without_bytes(rt: HostRuntime) -> Result<(), Fail> {
     expect_written(&rt, alloc, &units, &[0])?;
     expect_written(&rt, alloc, &units.as_slice(), &[0])?;
     expect_read_whole(&rt, alloc, &[0], &Vec::<()>::new(alloc))?;
-    expect_refused::<Vec<()>>(&rt, alloc, &[1], NO_BYTES);
+    expect_rejected::<Vec<()>>(&rt, alloc, &[1], NO_BYTES);
     expect_written(&rt, alloc, &TlsVecU8::from_slice(alloc, &[(), ()])?, &[0])
 }
 

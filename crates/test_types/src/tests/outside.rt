@@ -49,15 +49,15 @@ pub(super) fn expect_read_outside<T: Deserialize + PartialEq>(
 }
 
 // The bytes are rejected with this error.
-pub(super) fn expect_refused_outside<T: Deserialize>(
+pub(super) fn expect_rejected_outside<T: Deserialize>(
     rt: &impl Abort,
     alloc: Global,
     bytes: &[u8],
     error: Error,
 ) {
     for most in PIECES {
-        let refused = T::tls_deserialize(alloc, &mut in_pieces(bytes, most)).err();
-        same_at(rt, most, refused, Some(error));
+        let rejected = T::tls_deserialize(alloc, &mut in_pieces(bytes, most)).err();
+        same_at(rt, most, rejected, Some(error));
     }
 }
 
@@ -86,8 +86,8 @@ fn a_value_and_the_end_of_its_source(rt: HostRuntime) {
         }
     }
     let mut source = [0, 7, 1, 2].as_slice();
-    let refused = deserialize_to_end::<u16, _>(alloc, &mut source);
-    same(&rt, refused, Err(Error::TrailingData));
+    let rejected = deserialize_to_end::<u16, _>(alloc, &mut source);
+    same(&rt, rejected, Err(Error::TrailingData));
     same(&rt, source, [2].as_slice());
 }
 

@@ -62,7 +62,7 @@ fn expect_read_back<T: Deserialize + DeserializeBytes + PartialEq>(
 }
 
 // A copy has the whole content, and a byte is put after it.
-macro_rules! is_copied_and_grows {
+macro_rules! expect_copied_and_grown {
     ($rt:expr, $owned:ident, $content:ident) => {
         let copy = $owned.clone()?;
         same($rt, copy.as_slice(), $content.as_slice());
@@ -71,10 +71,10 @@ macro_rules! is_copied_and_grows {
     };
 }
 
-use is_copied_and_grows;
+use expect_copied_and_grown;
 
 // What a byte vector does at each size.
-macro_rules! byte_vector {
+macro_rules! expect_byte_vector {
     ($rt:ident, $alloc:ident, $Owned:ty, $expect_written:ident) => {
         for size in sizes_to($alloc, GREATEST)? {
             let content = filled($alloc, size, 0x61)?;
@@ -82,39 +82,39 @@ macro_rules! byte_vector {
             let mut owned = <$Owned>::from_slice($alloc, &content)?;
             $expect_written($rt, $alloc, &owned, &form)?;
             expect_read_back($rt, $alloc, &owned, &form)?;
-            is_copied_and_grows!($rt, owned, content);
+            expect_copied_and_grown!($rt, owned, content);
         }
     };
 }
 
-fn byte_vectors<N>(rt: &impl Abort, alloc: Global) -> Result<(), Fail> {
-    byte_vector!(rt, alloc, VarBytes<N>, expect_written_alone);
+fn expect_byte_vectors<N>(rt: &impl Abort, alloc: Global) -> Result<(), Fail> {
+    expect_byte_vector!(rt, alloc, VarBytes<N>, expect_written_alone);
     Ok(())
 }
 
-fn secrets<N>(rt: &impl Abort, alloc: Global) -> Result<(), Fail> {
-    byte_vector!(rt, alloc, SecretVarBytes<N>, expect_written);
+fn expect_secrets<N>(rt: &impl Abort, alloc: Global) -> Result<(), Fail> {
+    expect_byte_vector!(rt, alloc, SecretVarBytes<N>, expect_written);
     Ok(())
 }
 
 #[test]
 fn sizes_of_vl_bytes(rt: HostRuntime) -> Result<(), Fail> {
-    byte_vectors::<VLBytesName>(&rt, rt.alloc())
+    expect_byte_vectors::<VLBytesName>(&rt, rt.alloc())
 }
 
 #[test]
 fn sizes_of_vl_byte_vec(rt: HostRuntime) -> Result<(), Fail> {
-    byte_vectors::<VLByteVecName>(&rt, rt.alloc())
+    expect_byte_vectors::<VLByteVecName>(&rt, rt.alloc())
 }
 
 #[test]
 fn sizes_of_secret_vl_bytes(rt: HostRuntime) -> Result<(), Fail> {
-    secrets::<SecretVLBytesName>(&rt, rt.alloc())
+    expect_secrets::<SecretVLBytesName>(&rt, rt.alloc())
 }
 
 #[test]
 fn sizes_of_secret_vl_byte_vec(rt: HostRuntime) -> Result<(), Fail> {
-    secrets::<SecretVLByteVecName>(&rt, rt.alloc())
+    expect_secrets::<SecretVLByteVecName>(&rt, rt.alloc())
 }
 
 #[test]
@@ -126,7 +126,7 @@ fn sizes_of_vectors(rt: HostRuntime) -> Result<(), Fail> {
         let mut list = content.as_slice().to_vec(alloc)?;
         expect_written_alone(&rt, alloc, &list, &form)?;
         expect_read_back(&rt, alloc, &list, &form)?;
-        is_copied_and_grows!(&rt, list, content);
+        expect_copied_and_grown!(&rt, list, content);
     }
     Ok(())
 }

@@ -60,5 +60,9 @@ fn fields_in_place(rt: HostRuntime) {
         error: NOT_THERE,
         rest: &[2, 8],
     };
-    same(&rt, Encoded::<Named>::new(&[0, 7, 2, 8]).err(), Some(rejected));
+    same(
+        &rt,
+        Encoded::<Named>::new(&[0, 7, 2, 8]).err(),
+        Some(rejected),
+    );
 }

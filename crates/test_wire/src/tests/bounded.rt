@@ -79,7 +79,7 @@ impl Source for BufferWatcher {
 }
 
 // Two bytes are read within a limit of two, and none after them.
-fn are_two_bytes<R: Source>(rt: &impl Abort, src: &mut R) {
+fn expect_two_bytes<R: Source>(rt: &impl Abort, src: &mut R) {
     let mut inner = Bounded::new(src, 2);
     let mut bytes = [0; 2];
     same(rt, read_exactly(&mut inner, &mut bytes), Ok(()));
@@ -92,9 +92,9 @@ fn are_two_bytes<R: Source>(rt: &impl Abort, src: &mut R) {
 }
 
 // They are read so within a limit of three, which leaves one, and the byte after them too.
-fn are_three_bytes<R: Source>(rt: &impl Abort, src: &mut R) {
+fn expect_three_bytes<R: Source>(rt: &impl Abort, src: &mut R) {
     let mut outer = Bounded::new(src, 3);
-    are_two_bytes(rt, &mut outer);
+    expect_two_bytes(rt, &mut outer);
     same(rt, outer.limit(), 1);
     let mut byte = [0];
     same(rt, read_exactly(&mut outer, &mut byte), Ok(()));
@@ -111,7 +111,7 @@ fn gather_two<R: Source>(alloc: Global, src: &mut R) -> Result<Vec<u8>, Error> {
 #[test]
 fn a_limit_within_a_limit(rt: HostRuntime) {
     let mut src = [1, 2, 3, 4].as_slice();
-    are_three_bytes(&rt, &mut src);
+    expect_three_bytes(&rt, &mut src);
     same(&rt, src, [4].as_slice());
 }
 
@@ -160,7 +160,7 @@ fn bytes_are_gathered(rt: HostRuntime) -> Result<(), Fail> {
 
 // A vector has at most `isize::MAX` bytes. If it can't hold `length` bytes, none are taken.
 #[test]
-fn bytes_that_are_not_there_are_refused(rt: HostRuntime) {
+fn lengths_past_the_end_are_rejected(rt: HostRuntime) {
     let most = isize::MAX as usize;
     for (length, error, left) in [
         (4, Error::EndOfStream, 0),

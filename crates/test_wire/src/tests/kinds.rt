@@ -11,7 +11,7 @@ use tls_codec_wire::outside::Outside;
 const IO_ERROR: Error = Error::DecodingError("io error");
 
 // What an error of this kind is if a reader or a writer outside fails by it, and what it becomes.
-fn kind_is(rt: &impl Abort, kind: ErrorKind, fault: Fault, error: Error) {
+fn expect_fault_and_error(rt: &impl Abort, kind: ErrorKind, fault: Fault, error: Error) {
     let mut src = Outside::new(Failing { kind });
     same_at(rt, kind, src.pull(&mut [0]), Err(fault));
     let mut sink = Outside::new(Failing { kind });
@@ -26,7 +26,7 @@ fn three_kinds_are_told_apart(rt: HostRuntime) {
         (ErrorKind::OutOfMemory, Fault::NoMemory, IO_ERROR),
         (ErrorKind::UnexpectedEof, Fault::Failed, Error::EndOfStream),
     ] {
-        kind_is(&rt, kind, fault, error);
+        expect_fault_and_error(&rt, kind, fault, error);
     }
 }
 
@@ -73,6 +73,6 @@ fn every_other_kind_is_a_failure(rt: HostRuntime) {
         ErrorKind::Other,
         ErrorKind::Uncategorized,
     ] {
-        kind_is(&rt, kind, Fault::Failed, IO_ERROR);
+        expect_fault_and_error(&rt, kind, Fault::Failed, IO_ERROR);
     }
 }

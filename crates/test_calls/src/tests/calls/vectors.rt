@@ -23,7 +23,7 @@ fn elements_leave(rt: HostRuntime) -> Result<(), Fail> {
 }
 
 #[test]
-fn those_behind_an_element_that_leaves_are_asked_for(rt: HostRuntime) -> Result<(), Fail> {
+fn those_after_an_element_that_leaves_are_asked_for(rt: HostRuntime) -> Result<(), Fail> {
     let mut list = TlsVecU8::from_slice(rt.alloc(), &[9u8, 1, 8, 2, 7])?;
     list.retain(|element| *element > 5);
     same(&rt, list.as_slice(), [9, 8, 7].as_slice());

@@ -7,7 +7,7 @@ use tls_codec_base::{LengthField, counted, opaque};
 use tls_codec_wire::{Error, TlsVarInt, U24};
 
 // The elements 1 and 2 as `u16` after their length, and the bytes 9, 8 after theirs, are these.
-fn expect_behind<F: LengthField>(
+fn expect_contents_after<F: LengthField>(
     rt: &impl Abort,
     alloc: Global,
     list: &[u8],
@@ -76,13 +76,13 @@ fn expect_behind<F: LengthField>(
 }
 
 #[test]
-fn contents_behind_each_length(rt: HostRuntime) -> Result<(), Fail> {
+fn contents_after_each_length(rt: HostRuntime) -> Result<(), Fail> {
     let alloc = rt.alloc();
     let ends = Error::EndOfStream;
-    expect_behind::<u8>(&rt, alloc, &[4, 0, 1, 0, 2], &[2, 9, 8], ends)?;
-    expect_behind::<u16>(&rt, alloc, &[0, 4, 0, 1, 0, 2], &[0, 2, 9, 8], ends)?;
-    expect_behind::<U24>(&rt, alloc, &[0, 0, 4, 0, 1, 0, 2], &[0, 0, 2, 9, 8], ends)?;
-    expect_behind::<u32>(
+    expect_contents_after::<u8>(&rt, alloc, &[4, 0, 1, 0, 2], &[2, 9, 8], ends)?;
+    expect_contents_after::<u16>(&rt, alloc, &[0, 4, 0, 1, 0, 2], &[0, 2, 9, 8], ends)?;
+    expect_contents_after::<U24>(&rt, alloc, &[0, 0, 4, 0, 1, 0, 2], &[0, 0, 2, 9, 8], ends)?;
+    expect_contents_after::<u32>(
         &rt,
         alloc,
         &[0, 0, 0, 4, 0, 1, 0, 2],
@@ -90,7 +90,7 @@ fn contents_behind_each_length(rt: HostRuntime) -> Result<(), Fail> {
         ends,
     )?;
     let not_there = Error::DecodingError("declared content is not there");
-    expect_behind::<TlsVarInt>(&rt, alloc, &[4, 0, 1, 0, 2], &[2, 9, 8], not_there)?;
+    expect_contents_after::<TlsVarInt>(&rt, alloc, &[4, 0, 1, 0, 2], &[2, 9, 8], not_there)?;
     Ok(())
 }
 
@@ -130,7 +130,7 @@ fn contents_past_their_length_are_refused(rt: HostRuntime) -> Result<(), Fail> {
 }
 
 #[test]
-fn bytes_are_copied_from_behind_a_length(rt: HostRuntime) -> Result<(), Fail> {
+fn bytes_after_a_length_are_copied(rt: HostRuntime) -> Result<(), Fail> {
     let alloc = rt.alloc();
     let content = [0x0a, 0x14, 0x1e];
     let whole = [0x03, 0x0a, 0x14, 0x1e, 0x99];

@@ -78,11 +78,11 @@ fn a_leaf_has_one_spelling(rt: HostRuntime) -> Result<(), Fail> {
         &[0, 1, 0x80, 0, 0, 1, 7],
         &[0, 1, 0xc0, 0, 0, 0, 0, 0, 0, 1, 7],
     ] {
-        let refused = Leaf::tls_deserialize_exact_bytes(alloc, wide).err();
-        same(&rt, refused, Some(Error::InvalidVectorLength));
+        let rejected = Leaf::tls_deserialize_exact_bytes(alloc, wide).err();
+        same(&rt, rejected, Some(Error::InvalidVectorLength));
         let mut source = wide;
-        let refused = Leaf::tls_deserialize(alloc, &mut source).err();
-        same(&rt, refused, Some(Error::InvalidVectorLength));
+        let rejected = Leaf::tls_deserialize(alloc, &mut source).err();
+        same(&rt, rejected, Some(Error::InvalidVectorLength));
     }
     let (_, rest) = Leaf::tls_deserialize_bytes(alloc, &[0, 1, 1, 7, 0, 1, 1, 7])?;
     same(&rt, rest, form);

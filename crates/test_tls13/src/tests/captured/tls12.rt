@@ -1,5 +1,5 @@
 //! The run `tls12`: TLS 1.2 on both sides.
-use crate::tests::captured::{Refused, Row};
+use crate::tests::captured::{Rejected, Row};
 use tls_codec::Error;
 
 pub(in crate::tests) static ROWS: [Row; 4] = [
@@ -42,8 +42,8 @@ pub(in crate::tests) static ROWS: [Row; 4] = [
 // Read as TLS 1.3's, the certificate begins with a list of 99,584 bytes: 388 of them are there. The
 // ticket has a nonce of 86 bytes and then 8,839 bytes: 85 of these are there. The other types are
 // reserved.
-pub(in crate::tests) static REFUSED: [Refused; 5] = [
-    Refused {
+pub(in crate::tests) static REJECTED: [Rejected; 5] = [
+    Rejected {
         name: "tls12-03-s-Certificate",
         digits: &[
             "0b0001880001850001823082017e30820123a0030201020214553cb1f34f259ca2bf3947872be2a9",
@@ -59,7 +59,7 @@ pub(in crate::tests) static REFUSED: [Refused; 5] = [
         ],
         error: Error::EndOfStream,
     },
-    Refused {
+    Rejected {
         name: "tls12-04-s-ServerKeyExchange",
         digits: &[
             "0c00006f03001d20756efdbace6344f3e0bcd43017ec6ed8739a6d1475d54555d3c537266ca9c026",
@@ -68,17 +68,17 @@ pub(in crate::tests) static REFUSED: [Refused; 5] = [
         ],
         error: Error::UnknownValue(12),
     },
-    Refused {
+    Rejected {
         name: "tls12-05-s-ServerHelloDone",
         digits: &["0e000000"],
         error: Error::UnknownValue(14),
     },
-    Refused {
+    Rejected {
         name: "tls12-06-c-ClientKeyExchange",
         digits: &["10000021205d7092d6b6f899399de5d9bfdf737915aa6499fcabb4d1e18f40266020925b08"],
         error: Error::UnknownValue(16),
     },
-    Refused {
+    Rejected {
         name: "tls12-08-s-NewSessionTicket",
         digits: &[
             "040000b600001c2000b051b4567473bddc16f27ed72e9a8f52629becc3c7a5f1b059cdb8d9a2ae2b",

@@ -4,7 +4,7 @@ ghost use Rattle.tls_codec.specs.Contents.{elements_of, fixed_bytes_of};
 ghost use Rattle.tls_codec.specs.OwnMessages.{Empty, Join, Number, bounded_bytes_format, bounded_bytes_meets, bounded_list_format, bounded_list_meets, fields_format, fields_meets, nothing_format, nothing_meets, number_format, number_trees, trees, u16_meets};
 
 use super::{Methods, OUTSIDE, Suites};
-use crate::tests::each_call::{expect_encoded_as, expect_refused, expect_too_long};
+use crate::tests::each_call::{expect_encoded_as, expect_rejected, expect_too_long};
 use std::alloc::Global;
 use std::test::Fail;
 use tls_codec::{ByRef, Deserialize, DeserializeBytes, Error, Serialize, Sink, Size, Source};
@@ -76,7 +76,7 @@ fn offers_out_of_bounds(rt: HostRuntime) -> Result<(), Fail> {
     let methods = Methods::default(alloc);
     let offer = Offer { suites, methods };
     expect_too_long(&rt, alloc, &offer, 5, &[0, 2, 0x13, 0x01])?;
-    expect_refused::<Offer>(&rt, alloc, &[0, 2, 0x13, 0x01, 0], OUTSIDE);
-    expect_refused::<Offer>(&rt, alloc, &[0, 0, 1, 0], OUTSIDE);
+    expect_rejected::<Offer>(&rt, alloc, &[0, 2, 0x13, 0x01, 0], OUTSIDE);
+    expect_rejected::<Offer>(&rt, alloc, &[0, 0, 1, 0], OUTSIDE);
     Ok(())
 }

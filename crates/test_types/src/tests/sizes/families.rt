@@ -1,5 +1,5 @@
 //! Those after a length of one to four bytes.
-use super::{GREATEST, expect_read_back, is_copied_and_grows, sizes_to};
+use super::{GREATEST, expect_copied_and_grown, expect_read_back, sizes_to};
 use crate::tests::each_call::{expect_written, expect_written_alone, filled};
 use crate::tests::{holds, same};
 use std::alloc::{AllocError, Global};
@@ -16,7 +16,7 @@ fn spelled(alloc: Global, width: usize, content: &[u8]) -> Result<Vec<u8>, Alloc
 }
 
 // What a list of bytes does at each size, after a length of `width` bytes.
-macro_rules! list_of_bytes {
+macro_rules! expect_list_of_bytes {
     ($rt:ident, $alloc:ident, $Owned:ty, $expect_written:ident, $width:ident, $most:ident) => {
         for size in sizes_to($alloc, $most)? {
             let content = filled($alloc, size, 0x61)?;
@@ -26,73 +26,73 @@ macro_rules! list_of_bytes {
             expect_read_back($rt, $alloc, &owned, &form)?;
             let given = <$Owned>::try_from_iter($alloc, content.iter().copied())?;
             holds($rt, given == owned);
-            is_copied_and_grows!($rt, owned, content);
+            expect_copied_and_grown!($rt, owned, content);
         }
     };
 }
 
-fn byte_vectors<F: LengthField>(
+fn expect_byte_vectors<F: LengthField>(
     rt: &impl Abort,
     alloc: Global,
     width: usize,
     most: usize,
 ) -> Result<(), Fail> {
-    list_of_bytes!(rt, alloc, TlsByteVec<F>, expect_written_alone, width, most);
+    expect_list_of_bytes!(rt, alloc, TlsByteVec<F>, expect_written_alone, width, most);
     Ok(())
 }
 
-fn lists<F: LengthField>(
+fn expect_lists<F: LengthField>(
     rt: &impl Abort,
     alloc: Global,
     width: usize,
     most: usize,
 ) -> Result<(), Fail> {
-    list_of_bytes!(rt, alloc, TlsVec<F, u8>, expect_written, width, most);
+    expect_list_of_bytes!(rt, alloc, TlsVec<F, u8>, expect_written, width, most);
     Ok(())
 }
 
-fn secrets<F: LengthField>(
+fn expect_secrets<F: LengthField>(
     rt: &impl Abort,
     alloc: Global,
     width: usize,
     most: usize,
 ) -> Result<(), Fail> {
-    list_of_bytes!(rt, alloc, SecretTlsVec<F, u8>, expect_written, width, most);
+    expect_list_of_bytes!(rt, alloc, SecretTlsVec<F, u8>, expect_written, width, most);
     Ok(())
 }
 
 #[test]
-fn sizes_of_byte_vectors_behind_one_or_three_bytes(rt: HostRuntime) -> Result<(), Fail> {
-    byte_vectors::<u8>(&rt, rt.alloc(), 1, 255)?;
-    byte_vectors::<U24>(&rt, rt.alloc(), 3, GREATEST)
+fn sizes_of_byte_vectors_after_one_or_three_bytes(rt: HostRuntime) -> Result<(), Fail> {
+    expect_byte_vectors::<u8>(&rt, rt.alloc(), 1, 255)?;
+    expect_byte_vectors::<U24>(&rt, rt.alloc(), 3, GREATEST)
 }
 
 #[test]
-fn sizes_of_byte_vectors_behind_two_or_four_bytes(rt: HostRuntime) -> Result<(), Fail> {
-    byte_vectors::<u16>(&rt, rt.alloc(), 2, 65_535)?;
-    byte_vectors::<u32>(&rt, rt.alloc(), 4, GREATEST)
+fn sizes_of_byte_vectors_after_two_or_four_bytes(rt: HostRuntime) -> Result<(), Fail> {
+    expect_byte_vectors::<u16>(&rt, rt.alloc(), 2, 65_535)?;
+    expect_byte_vectors::<u32>(&rt, rt.alloc(), 4, GREATEST)
 }
 
 #[test]
-fn sizes_of_lists_behind_one_or_three_bytes(rt: HostRuntime) -> Result<(), Fail> {
-    lists::<u8>(&rt, rt.alloc(), 1, 255)?;
-    lists::<U24>(&rt, rt.alloc(), 3, GREATEST)
+fn sizes_of_lists_after_one_or_three_bytes(rt: HostRuntime) -> Result<(), Fail> {
+    expect_lists::<u8>(&rt, rt.alloc(), 1, 255)?;
+    expect_lists::<U24>(&rt, rt.alloc(), 3, GREATEST)
 }
 
 #[test]
-fn sizes_of_lists_behind_two_or_four_bytes(rt: HostRuntime) -> Result<(), Fail> {
-    lists::<u16>(&rt, rt.alloc(), 2, 65_535)?;
-    lists::<u32>(&rt, rt.alloc(), 4, GREATEST)
+fn sizes_of_lists_after_two_or_four_bytes(rt: HostRuntime) -> Result<(), Fail> {
+    expect_lists::<u16>(&rt, rt.alloc(), 2, 65_535)?;
+    expect_lists::<u32>(&rt, rt.alloc(), 4, GREATEST)
 }
 
 #[test]
-fn sizes_of_secrets_behind_one_or_three_bytes(rt: HostRuntime) -> Result<(), Fail> {
-    secrets::<u8>(&rt, rt.alloc(), 1, 255)?;
-    secrets::<U24>(&rt, rt.alloc(), 3, GREATEST)
+fn sizes_of_secrets_after_one_or_three_bytes(rt: HostRuntime) -> Result<(), Fail> {
+    expect_secrets::<u8>(&rt, rt.alloc(), 1, 255)?;
+    expect_secrets::<U24>(&rt, rt.alloc(), 3, GREATEST)
 }
 
 #[test]
-fn sizes_of_secrets_behind_two_or_four_bytes(rt: HostRuntime) -> Result<(), Fail> {
-    secrets::<u16>(&rt, rt.alloc(), 2, 65_535)?;
-    secrets::<u32>(&rt, rt.alloc(), 4, GREATEST)
+fn sizes_of_secrets_after_two_or_four_bytes(rt: HostRuntime) -> Result<(), Fail> {
+    expect_secrets::<u16>(&rt, rt.alloc(), 2, 65_535)?;
+    expect_secrets::<u32>(&rt, rt.alloc(), 4, GREATEST)
 }
