@@ -35,16 +35,22 @@ pub(super) fn part(
     Ok(out)
 }
 
-// What the signature of a key package is over (sections 10 and 5.1.2).
-fn signed_bytes(alloc: Global, package: &KeyPackage) -> Result<Vec<u8>, Error> {
-    let signed = KeyPackageTBS::from(package);
-    let content = VLBytes::new(signed.tls_serialize_detached(alloc)?);
-    let label = VLBytes::from_slice(alloc, b"MLS 1.0 KeyPackageTBS")?;
+// What a signature is over (section 5.1.2).
+fn sign_content(alloc: Global, label: &[u8], content: Vec<u8>) -> Result<Vec<u8>, Error> {
+    let label = VLBytes::from_slice(alloc, label)?;
+    let content = VLBytes::new(content);
     let signed = SignContent {
         label: &label,
         content: &content,
     };
     signed.tls_serialize_detached(alloc)
+}
+
+// What the signature of a key package is over (section 10).
+fn signed_bytes(alloc: Global, package: &KeyPackage) -> Result<Vec<u8>, Error> {
+    let signed = KeyPackageTBS::from(package);
+    let content = signed.tls_serialize_detached(alloc)?;
+    sign_content(alloc, b"MLS 1.0 KeyPackageTBS", content)
 }
 
 #[test]
@@ -127,6 +133,16 @@ fn signed_content<'a>(
     }
 }
 
+// What its signature is over.
+fn signed_message(
+    alloc: Global,
+    message: &PublicMessage,
+    context: &Option<GroupContext>,
+) -> Result<Vec<u8>, Error> {
+    let content = signed_content(message, context).tls_serialize_detached(alloc)?;
+    sign_content(alloc, b"MLS 1.0 FramedContentTBS", content)
+}
+
 // What the membership tag is over (section 6.2).
 fn authenticated_content<'a>(
     message: &'a PublicMessage,
@@ -163,6 +179,11 @@ fn a_commit(rt: HostRuntime) -> Result<(), Fail> {
     let bytes = part(&rt, alloc, &GROUP_INFO, 4, 23, &[])?;
     let signed = part(&rt, alloc, &COMMIT, 0, 88, &bytes)?;
     expect_written(&rt, alloc, &signed_content(&message, &context), &signed)?;
+    // The label, the length of the content, and the content.
+    let head = b"\x18MLS 1.0 FramedContentTBS\x40\x6b";
+    let expected = part(&rt, alloc, head, 0, 27, &signed)?;
+    let found = signed_message(alloc, &message, &context)?;
+    same(&rt, found.as_slice(), expected.as_slice());
     let tagged = part(&rt, alloc, &signed, 0, signed.len(), &COMMIT[88..92])?;
     expect_written(
         &rt,
