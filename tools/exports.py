@@ -16,9 +16,10 @@ import pathlib
 import re
 import sys
 
-from lib.exported import CALLS, MEANINGS, MODULES, WHOLE, WRITTEN, Export, Unread
-from lib.exported import about, exports_of, libraries, module_of, named_as_in_the_rfc, numbers, structs, taken_by, type_in_c
+from lib.exported import CALLS, MEANINGS, MODULES, WHOLE, WRITTEN, Export
+from lib.exported import about, exports_of, libraries, module_of, named_as_in_the_rfc, numbers, struct_of, structs, taken_by, type_in_c
 from lib.exports_rust import exports_rust
+from lib.failed import Failed
 from lib.headers import CONTRACT, LISTS, READERS, UMBRELLA, WHOLE_OUTCOME
 from lib.libraries import TOP
 from lib.registries import enums_in_c, enums_in_python
@@ -38,9 +39,9 @@ WITH_LENGTH = [
 
 
 def struct_in_c(kind: str) -> list[str]:
-    name, lines = type_in_c(kind), comment(structs()[kind].text)
+    name, lines = type_in_c(kind), comment(struct_of(kind).text)
     lines.append(f"typedef struct {name} {{")
-    for text, field, field_kind in structs()[kind].fields:
+    for text, field, field_kind in struct_of(kind).fields:
         lines += [*comment(text, "  "), f"  {type_in_c(field_kind)} {named_as_in_the_rfc(field)};"]
     return [*lines, f"}} {name};"]
 
@@ -81,7 +82,7 @@ def version() -> str:
     """The last version of CHANGELOG.md."""
     found = re.search(r"^## (\d+\.\d+\.\d+)$", (TOP / "CHANGELOG.md").read_text(encoding="utf-8"), re.M)
     if not found:
-        raise Unread("CHANGELOG.md has no version")
+        raise Failed("CHANGELOG.md has no version")
     return found[1]
 
 
@@ -102,7 +103,7 @@ def outcome_header(of_headers: str) -> str:
         body += [*comment(MEANINGS[name], "  "), f"  TLS_CODEC_{spaced(name)} = {number}{'' if name == names[-1][0] else ','}"]
     body += ["};", ""]
     for it in structs():
-        body += [*struct_in_c(it), ""] if structs()[it].crate == "tls_codec_outcome" else []
+        body += [*struct_in_c(it), ""] if struct_of(it).crate == "tls_codec_outcome" else []
     body += WHOLE_OUTCOME
     body += ["/* The name of a status, as \"EndOfStream\"; \"?\" of another number. */"]
     body += ["static inline const char *tls_codec_status_name(uint32_t status) {", "  switch (status) {"]
@@ -114,7 +115,7 @@ def outcome_header(of_headers: str) -> str:
 def declared(it: Export) -> list[str]:
     """A call in C: the struct that it fills, its prototype, and a validator's call that takes all of the bytes."""
     lines: list[str] = []
-    if it.call == "_locate" and structs()[taken_by(it)].crate != "tls_codec_outcome":
+    if it.call == "_locate" and struct_of(taken_by(it)).crate != "tls_codec_outcome":
         lines = ["", *struct_in_c(taken_by(it))]
     lines += ["", *comment(it.in_c()), it.prototype()]
     if it.call == "_validate_prefix":
@@ -160,7 +161,7 @@ def fields_with_length() -> dict[str, list[str]]:
     """Which of these fields begin with a length, in some case or in each, by NAME."""
     found = {}
     for it in located():
-        fields = structs()[taken_by(it)].fields if taken_by(it) != "Span" else []
+        fields = struct_of(taken_by(it)).fields if taken_by(it) != "Span" else []
         if names := [named_as_in_the_rfc(field) for text, field, _ in fields if "with its length" in text]:
             found[it.subject] = names
     return found
@@ -207,14 +208,19 @@ def files() -> dict[pathlib.Path, str]:
 
 def main() -> int:
     failed = 0
-    for path, text in files().items():
+    try:
+        written = files()
+    except (Failed, OSError) as error:
+        print(f"FAILED: {error}\n0 passed, 1 failed")
+        return 1
+    for path, text in written.items():
         if "--write" in sys.argv[1:]:
             path.parent.mkdir(parents=True, exist_ok=True)
             path.write_text(text, encoding="utf-8")
         is_same = path.is_file() and path.read_text(encoding="utf-8") == text
         failed += not is_same
         print(f"{path.relative_to(TOP)}: {'ok' if is_same else 'FAILED: tools/exports.py --write writes another text'}")
-    print(f"{len(files()) - failed} passed, {failed} failed")
+    print(f"{len(written) - failed} passed, {failed} failed")
     return 1 if failed else 0
 
 

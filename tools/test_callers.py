@@ -18,13 +18,15 @@ import re
 import shutil
 import sys
 import tempfile
+from collections.abc import Callable
 
 import archives
 import exports
 from lib import exported
 from lib.caller_examples import boundary, hello, readmes, sender, stream
 from lib.caller_inputs import PAGE, USED, answered, captured, hellos, listed_enums, listed_messages, statuses_of, vector, written_in_c
-from lib.caller_room import ALL, C, COMMIT, DECODERS, PYTHON, SANITIZED, WARNINGS, Failed, Room
+from lib.caller_room import ALL, C, COMMIT, DECODERS, PYTHON, SANITIZED, WARNINGS, Room
+from lib.failed import Failed
 from lib.libraries import CRATES, ROWS, TOP, Libraries
 from lib.registries import ENUMS
 from lib.shared_object import SHARED
@@ -277,39 +279,47 @@ TESTS = [declared, rows_name_each_call, rows_in_c, rows_with_sanitizers, places_
 TESTS += [page_in_c, cplusplus, boundary, stream, hello, sender, readmes, rust, python, vectors, mix]
 
 
-def main() -> int:
-    passed = failed = 0
-    with tempfile.TemporaryDirectory(prefix="callers-") as folder:
-        built = pathlib.Path(sys.argv[1]) if sys.argv[1:] else pathlib.Path(folder) / "archives"
-        room = Room(pathlib.Path(folder), built)
-        libraries = Libraries()
-        if not sys.argv[1:]:
-            built.mkdir()
-            try:
-                archives.put_heap(libraries, built)
-                for crate in libraries.static:
-                    archives.build(libraries, crate, built)
-                archives.put_mark(built)
-            except (archives.NotBuilt, OSError) as error:
-                print(f"no archive: {error}\n0 passed, 1 failed")
-                return 1
-        tests = {exported.archive_of(it): lambda room, it=it: archive_has_its_exports(room, it) for it in libraries.static}
-        for it in TESTS:
+def build(folder: pathlib.Path) -> None:
+    """Builds the archives, as archives.py does."""
+    libraries = Libraries()
+    folder.mkdir()
+    archives.put_heap(libraries, folder)
+    for crate in libraries.static:
+        archives.build(libraries, crate, folder)
+
+
+def all_tests() -> dict[str, Callable[[Room], None]]:
+    """The tests by their names, without those of tools that aren't there. Archives that are built here get their mark first."""
+    tests: dict[str, Callable[[Room], None]] = {} if sys.argv[1:] else {exports.MARK: lambda room: archives.put_mark(room.archives)}
+    tests |= {exported.archive_of(it): lambda room, it=it: archive_has_its_exports(room, it) for it in ALL}
+    tests |= {it.__name__: it for it in TESTS}
+    for it, command in ((cmake, "cmake"), (cmake_of_one, "cmake"), (pkg_config, "pkg-config"), (valgrind, "valgrind")):
+        if shutil.which(command):
             tests[it.__name__] = it
-        for it, command in ((cmake, "cmake"), (cmake_of_one, "cmake"), (pkg_config, "pkg-config"), (valgrind, "valgrind")):
-            if shutil.which(command):
-                tests[it.__name__] = it
-            else:
-                print(f"{command} is not there, and was not tried")
+        else:
+            print(f"{command} is not there, and was not tried")
+    return tests
+
+
+def main() -> int:
+    failed = 0
+    with tempfile.TemporaryDirectory(prefix="callers-") as folder:
+        room = Room(pathlib.Path(folder), pathlib.Path(sys.argv[1] if sys.argv[1:] else f"{folder}/archives"))
+        try:
+            if not sys.argv[1:]:
+                build(room.archives)
+        except (Failed, OSError) as error:
+            print(f"no archive: FAILED: {error}\n0 passed, 1 failed")
+            return 1
+        tests = all_tests()
         for name, test in tests.items():
             try:
                 test(room)
-                passed += 1
                 print(f"{name}: ok", flush=True)
             except (Failed, OSError) as error:
                 failed += 1
                 print(f"{name}: FAILED: {error}", flush=True)
-    print(f"{passed} passed, {failed} failed")
+    print(f"{len(tests) - failed} passed, {failed} failed")
     return 1 if failed else 0
 
 

@@ -6,6 +6,7 @@ import pathlib
 import re
 
 from lib.blocks import NOT_QUOTED, blocks
+from lib.failed import Failed
 from lib.libraries import CRATES, ROWS, TOP
 
 PAGE = TOP / "docs" / "CALLERS.md"
@@ -66,7 +67,9 @@ def vector() -> dict[str, str]:
     whole = [(message, digits) for message, digits, outcome, *_ in rows_of(ROWS[0]) if outcome == f"0 {len(digits) // 2} 0 0"]
     found = {}
     for name, (message, begin) in VECTOR.items():
-        digits = next(it for other, it in whole if other == message and it.startswith(begin))
+        digits = next((it for other, it in whole if other == message and it.startswith(begin)), None)
+        if digits is None:
+            raise Failed(f"no row of {message} begins with {begin!r}")
         found[name] = digits[len(begin) :] if message == "mls_proposal" else digits
     return found
 

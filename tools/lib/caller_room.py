@@ -6,8 +6,9 @@ import shutil
 import subprocess
 
 from lib import exported
+from lib.failed import Failed
 from lib.libraries import CRATES, TOP
-from lib.shared_object import SHARED, NotLinked, put_shared
+from lib.shared_object import SHARED, put_shared
 
 C = TOP / "c"
 PYTHON = TOP / "python"
@@ -17,10 +18,6 @@ SANITIZED = [*WARNINGS, "-g", "-fsanitize=address,undefined", "-fno-sanitize-rec
 ALL = exported.libraries()
 DECODERS = exported.decoders()
 COMMIT = CRATES / "tlsdump" / "stdin"
-
-
-class Failed(Exception):
-    """Why a test failed."""
 
 
 class Room:
@@ -47,10 +44,7 @@ class Room:
     def shared_object(self) -> pathlib.Path:
         """All archives in one, as `archives.py --shared` makes it."""
         if not (self.folder / SHARED).is_file():
-            try:
-                put_shared(self.archives, self.folder)
-            except NotLinked as error:
-                raise Failed(str(error)) from error
+            put_shared(self.archives, self.folder)
         return self.folder / SHARED
 
     def program(self, source: str, crates: list[str], *more: str, compiler: str = "cc", flags: list[str] = WARNINGS) -> pathlib.Path:

@@ -5,6 +5,7 @@ import functools
 import re
 from dataclasses import dataclass
 
+from lib.failed import Failed
 from lib.libraries import TOP, Libraries
 
 WRITTEN = "Written by tools/exports.py"
@@ -63,10 +64,6 @@ MEANINGS = {
 }
 
 
-class Unread(Exception):
-    """The sources have something that isn't read here."""
-
-
 @dataclass
 class Export:
     """A function that a static library exports."""
@@ -81,7 +78,7 @@ class Export:
         """How the name ends, by what the call does."""
         found = next((it for it in CALLS if self.name.endswith(it)), None)
         if not found:
-            raise Unread(f"{self.name}: no call of {CALLS}")
+            raise Failed(f"{self.name} ends in none of {', '.join(CALLS)}")
         return found
 
     @property
@@ -132,7 +129,7 @@ def in_c(name: str, kind: str) -> list[str]:
         return [f"{C[kind]} {name}"]
     if kind.removeprefix("&mut ") in (*C, *structs()):
         return [f"{type_in_c(kind.removeprefix('&mut '))} *{name}"]
-    raise Unread(f"{name}: {kind}")
+    raise Failed(f"{name}: {kind} is no type of a parameter")
 
 
 def in_rust(name: str, kind: str) -> list[str]:
@@ -142,7 +139,7 @@ def in_rust(name: str, kind: str) -> list[str]:
         return [f"{name}: *{'const' if kind == '&[u8]' else 'mut'} u8", f"{length_of(name)}: usize"]
     if kind.removeprefix("&mut ") in (*C, *structs()):
         return [f"{name}: {kind}"]
-    raise Unread(f"{name}: {kind}")
+    raise Failed(f"{name}: {kind} is no type of a parameter")
 
 
 @dataclass
@@ -164,8 +161,15 @@ def structs() -> dict[str, Struct]:
                 found[name] = Struct(words_of(text), crate, fields)
     texts = " ".join(text for it in found.values() for text, _, _ in it.fields)
     if unused := [it for it in INSIDE if it + INSIDE[it] not in texts]:
-        raise Unread(f"no field is {unused}")
+        raise Failed(f"no field is {unused}")
     return found
+
+
+def struct_of(kind: str) -> Struct:
+    """The struct of this name."""
+    if kind not in structs():
+        raise Failed(f"{kind}: no struct of {', '.join(STRUCTS)}")
+    return structs()[kind]
 
 
 def described(text: str) -> str:
@@ -179,7 +183,7 @@ def type_in_c(kind: str) -> str:
     if kind in C:
         return C[kind]
     name = re.sub(r"(?<=[a-z])(?=[A-Z])|(?<=[A-Z])(?=[A-Z][a-z])", "_", kind).lower()
-    prefix = STRUCTS[structs()[kind].crate]
+    prefix = STRUCTS[struct_of(kind).crate]
     return name if name.startswith(prefix) else f"{prefix}_{name}"
 
 
@@ -223,10 +227,10 @@ def exports_of(crate: str) -> list[Export]:
     text = "\n".join(it.read_text(encoding="utf-8") for it in sorted((TOP / "crates" / crate / "src").glob("*.rt")))
     found = []
     for comment, name, inside, result in EXPORT.findall(text):
-        pairs = [tuple(it.strip().split(": ", 1)) for it in inside.split(",") if it.strip()]
-        found.append(Export(name, words_of(comment), pairs, result))
+        pairs = [it.strip().partition(": ") for it in inside.split(",") if it.strip()]
+        found.append(Export(name, words_of(comment), [(it, kind) for it, _, kind in pairs], result))
     if len(found) != text.count("no_mangle"):
-        raise Unread(f"{crate}: {text.count('no_mangle')} exports, of which {len(found)} are read")
+        raise Failed(f"{crate}: {text.count('no_mangle')} exports, of which {len(found)} are read")
     return found
 
 
@@ -240,10 +244,12 @@ def numbers() -> list[tuple[str, bool, int]]:
     """The errors' names, whether they have a value, and their numbers."""
     found = [(name, bool(value), int(number)) for name, value, number in NUMBER.findall(source_of("tls_codec_outcome", "numbers.rt"))]
     if [number for _, _, number in found] != list(range(1, 11)) or {name for name, _, _ in found} - set(MEANINGS):
-        raise Unread(f"the numbers of the errors are {found}")
+        raise Failed(f"the numbers of the errors are {found}")
     return found
 
 
 def taken_by(export: Export) -> str:
     """The struct that a function fills."""
+    if len(export.parameters) < 2:
+        raise Failed(f"{export.name}: nothing to fill after the bytes")
     return export.parameters[1][1].removeprefix("&mut ")

@@ -1,8 +1,9 @@
 """rust/src/exports.rs: what the Rust crate declares of the static libraries, and the functions over it. exports.py writes it."""
 from __future__ import annotations
 
-from lib.exported import CALLS, MEANINGS, WRITTEN, Export, Unread
-from lib.exported import about, archive_of, decoders, exports_of, libraries, module_of, named_as_in_the_rfc, numbers, structs, taken_by
+from lib.exported import CALLS, MEANINGS, WRITTEN, Export
+from lib.exported import about, archive_of, decoders, exports_of, libraries, module_of, named_as_in_the_rfc, numbers, struct_of, taken_by
+from lib.failed import Failed
 from lib.registries import enums_in_rust
 
 SAFE = "the pointer and the length are of one slice, nothing changes it during the call, and the call keeps no pointer."
@@ -37,8 +38,8 @@ def field_in_rust(field: str) -> str:
 
 
 def struct_in_rust(kind: str) -> list[str]:
-    lines = [f"/// {structs()[kind].text}", "#[repr(C)]", "#[derive(Clone, Copy, Default)]", f"pub struct {kind} {{"]
-    return [*lines, *[f"    pub {field_in_rust(name)}: {field}," for _, name, field in structs()[kind].fields], "}"]
+    lines = [f"/// {struct_of(kind).text}", "#[repr(C)]", "#[derive(Clone, Copy, Default)]", f"pub struct {kind} {{"]
+    return [*lines, *[f"    pub {field_in_rust(name)}: {field}," for _, name, field in struct_of(kind).fields], "}"]
 
 
 def found_in_rust(export: Export, name: str, text: str, kinds: tuple[str, str, str]) -> list[str]:
@@ -73,7 +74,7 @@ def located_in_rust(module: str, export: Export) -> list[str]:
     kind, name = taken_by(export), f"locate_{export.subject.removeprefix(f'{module}_')}"
     if kind == "Span":
         return content_in_rust(export, name)
-    it = structs()[kind]
+    it = struct_of(kind)
     lines = ["", f"    /// {it.text}", "    #[derive(Clone, Copy, PartialEq, Eq, Debug)]", f"    pub struct {kind}<'a> {{"]
     for text, field, _ in it.fields:
         lines += [f"        /// {text}", f"        pub {field_in_rust(field)}: &'a [u8],"]
@@ -91,7 +92,7 @@ def reworded(export: Export) -> str:
     """The text of an encoder, as a caller in Rust reads it."""
     found = [it for it in REWORDED if export.text.endswith(it)]
     if not found:
-        raise Unread(f"{export.name}: its text ends in other words")
+        raise Failed(f"{export.name}: its text ends in other words")
     return export.text.removesuffix(found[0]) + REWORDED[found[0]]
 
 
@@ -106,7 +107,7 @@ def encoder_in_rust(export: Export, name: str) -> list[str]:
     lines += [f"        // SAFETY: {SAFE_TO_WRITE}"]
     lines += [f"        let outcome = unsafe {{ foreign::{export.name}({', '.join(passed)}) }};"]
     if export.name not in BESIDE:
-        raise Unread(f"{export.name}: how many bytes it writes beside its parts")
+        raise Failed(f"{export.name}: how many bytes it writes beside its parts")
     sizes = [str(BESIDE[export.name]), *[f"{it}.len()" for it in taken if kinds[it] == "&[u8]"]]
     return [*lines, f"        written_as(out, {' + '.join(sizes)}, outcome)", "    }"]
 
@@ -127,7 +128,7 @@ def decoders_in_rust(crate: str) -> list[str]:
     name, exports = crate.removesuffix("_c"), exports_of(crate)
     text = about(crate).removesuffix(": `at` is 0.")
     if text == about(crate):
-        raise Unread(f"{crate}: its text ends in other words")
+        raise Failed(f"{crate}: its text ends in other words")
     body = ["", f"/// {text}.", '#[cfg(feature = "check")]', f"pub mod {name} {{", "    use crate::{Error, split, whole};", ""]
     body += ["    mod foreign {", "        use crate::Outcome;", "", f'        #[link(name = "{linked(crate)}", kind = "static")]']
     body += ['        unsafe extern "C" {', *[f"            {it.declaration()}" for it in exports], "        }", "    }"]
@@ -144,7 +145,7 @@ def module_in_rust(crate: str) -> list[str]:
     located, lists, encoders = by_call["_locate"], by_call["_next"], by_call["_encode"]
     taken = dict.fromkeys(taken_by(it) for it in located if taken_by(it) != "Span")
     if by_call["_decode_check"]:
-        raise Unread(f"{crate}: an export of no kind that Rust has a function for")
+        raise Failed(f"{crate}: an export of no kind that Rust has a function for")
     used = ["Rejected", "split", *(["split_as"] if located else []), "whole"]
     if len(taken) < len(located) and not taken:
         used.insert(1, "Span")
