@@ -25,7 +25,7 @@ fn main() {
     println!("cargo::rerun-if-changed={}", mark.display());
     let found = fs::read_to_string(&mark).unwrap_or_default();
     if found != MARK {
-        eprintln!("the archives are of {found:?}, and not of {MARK:?}: {}", mark.display());
+        eprintln!("{} has {found:?}, and the declarations are of {MARK:?}", mark.display());
         process::exit(1);
     }
     println!("cargo::rustc-link-search=native={}", folder.display());

@@ -193,7 +193,7 @@ def vectors(room: Room) -> None:
 
 
 def mix(room: Room) -> None:
-    """Archives of other headers: Rust, Python and CMake fail."""
+    """Archives of other headers, and those without a mark: Rust, Python and CMake fail."""
     folder = room.folder / "mix"
     shutil.copytree(room.archives, folder)
     shutil.copy(room.shared_object(), folder)
@@ -201,14 +201,16 @@ def mix(room: Room) -> None:
     env = {**os.environ, "TLS_CODEC_ARCHIVES": str(folder.resolve()), "CARGO_TARGET_DIR": str(room.folder / "mixed")}
     env["PYTHONPATH"] = str(PYTHON)
     room.run(call, env=env)
-    (folder / exports.MARK).write_text("0.1.0 0\n")
     refused = [(call, 1), (["cargo", "check", "--offline", "--quiet"], 101)]
     if shutil.which("cmake"):
         refused.append((["cmake", "-S", C, "-B", room.folder / "unbuilt", f"-DTLS_CODEC_ARCHIVES={folder}"], 1))
-    for words, status in refused:
-        # CMake breaks lines
-        if b"0.1.0 0" not in b" ".join(room.run(words, status=status, cwd=TOP / "rust", env=env).split()):
-            raise Failed(f"{words[0]} doesn't say which archives it found")
+    (folder / exports.MARK).write_text("0.1.0 0\n")
+    for said in ("0.1.0 0", str(folder / exports.MARK)):
+        for words, status in refused:
+            # CMake breaks lines
+            if said not in " ".join(room.run(words, status=status, cwd=TOP / "rust", env=env).decode().split()):
+                raise Failed(f"{words[0]} doesn't say {said}")
+        (folder / exports.MARK).unlink(missing_ok=True)
 
 
 def cmake(room: Room) -> None:

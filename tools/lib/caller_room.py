@@ -42,9 +42,10 @@ class Room:
         return [self.archives / it for it in [*map(exported.archive_of, crates), *heap]]
 
     def shared_object(self) -> pathlib.Path:
-        """All archives in one, as `archives.py --shared` makes it."""
+        """All archives in one, as `archives.py --shared` makes it, with their mark beside it."""
         if not (self.folder / SHARED).is_file():
             put_shared(self.archives, self.folder)
+            shutil.copy(self.archives / "tls_codec.version", self.folder)
         return self.folder / SHARED
 
     def program(self, source: str, crates: list[str], *more: str, compiler: str = "cc", flags: list[str] = WARNINGS) -> pathlib.Path:
