@@ -44,13 +44,17 @@ add_subdirectory({C} tls_codec)
 add_executable(one {C}/examples/boundary.c)
 target_link_libraries(one PRIVATE tls_codec::mls)
 """
-# One that finds what is installed, and links a decoder's archive too.
+# One that finds what is installed, and no version before it, and links all archives.
 FOUND = """\
 cmake_minimum_required(VERSION 3.16)
 project(found LANGUAGES C)
-find_package(tls_codec REQUIRED)
+find_package(tls_codec 0.1 QUIET)
+if(tls_codec_FOUND)
+  message(FATAL_ERROR "another version is found")
+endif()
+find_package(tls_codec 0.2 REQUIRED)
 add_executable(found {C}/tests/rows.c)
-target_link_libraries(found PRIVATE tls_codec::mls tls_codec::tls13 tls_codec::lengths tls_codec::mls_check tls_codec::tls13_check)
+target_link_libraries(found PRIVATE {targets})
 """
 # The files of rust/tests, and those that test nothing without the feature `check`.
 RUST_TESTS = ["places", "rows", "signed"]
@@ -227,10 +231,13 @@ def cmake(room: Room) -> None:
     for example in ("boundary", "sender"):
         room.run([build / example], bytes.fromhex(COMMIT.read_text()))
     room.run([build / "hello"], hellos()[0][0])
-    room.run([build / "rows", ROWS[1]])
+    output = room.run(["ctest", "--output-on-failure"], cwd=build).decode()
+    if "100% tests passed, 0 tests failed out of 8\n" not in output:
+        raise Failed(output)
     user = room.folder / "found"
     user.mkdir()
-    (user / "CMakeLists.txt").write_text(FOUND.format(C=C))
+    targets = " ".join(f"tls_codec::{exported.module_of(it)}" for it in ALL)
+    (user / "CMakeLists.txt").write_text(FOUND.format(C=C, targets=targets))
     room.run(["cmake", "-S", user, "-B", user / "build", f"-DCMAKE_PREFIX_PATH={installed.resolve()}"])
     room.run(["cmake", "--build", user / "build"])
     room.run([user / "build" / "found", ROWS[1]])
