@@ -17,8 +17,8 @@ import subprocess
 import sys
 import tempfile
 
-import exports
 from lib.exported import HEAP, archive_of
+from lib.exports_c import MARK, mark
 from lib.failed import Failed
 from lib.libraries import CRATES, TOP, Libraries
 from lib.shared_object import SHARED, put_shared
@@ -101,7 +101,7 @@ def put_heap(libraries: Libraries, folder: pathlib.Path) -> None:
 def put_mark(folder: pathlib.Path) -> None:
     """Writes down which headers the archives are of, and what they were built from."""
     (folder / BUILT).write_text(built_from(folder), encoding="utf-8")
-    (folder / exports.MARK).write_text(f"{exports.mark()}\n", encoding="utf-8")
+    (folder / MARK).write_text(f"{mark()}\n", encoding="utf-8")
 
 
 def printed(*words: str) -> str:
@@ -129,11 +129,11 @@ def main() -> int:
         return 1
     folder.mkdir(parents=True, exist_ok=True)
     libraries = Libraries()
-    for it in (exports.MARK, BUILT):
+    for it in (MARK, BUILT):
         (folder / it).unlink(missing_ok=True)
     try:
         # (cached: what can't be read fails here, before the proofs)
-        exports.mark()
+        mark()
         if target == TARGET:
             put_heap(libraries, folder)
         for crate in libraries.static:

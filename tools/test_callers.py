@@ -1,13 +1,12 @@
 #!/usr/bin/env python3
 """test_callers.py [ARCHIVES]: tests what callers in C, C++, Rust and Python are given. It runs after `rt ci`, over what that proved.
 
-The archives are built (archives.py), unless a folder with them is given. Then: the headers and declarations are those that
-exports.py writes; an archive exports just what its header has, and needs nothing that isn't listed; a C program, the Rust crate and the
-Python module answer the rows of `test_outcome`, of `test_places` and of c/tests/*.tsv, which name each call, and C those of captured
-messages too, and whatever bit of a row is turned; each request for memory is refused in turn; validators and decoders are compared for
-three seconds; the examples run, and the commands of the READMEs in c/, rust/ and python/; the C of docs/CALLERS.md is compiled, and
-python/tests/vectors.py reads rows; archives of other headers are refused. `cc`, `c++`, `nm` and `cargo` have to be there. CMake,
-pkg-config and valgrind are tried where they are. Last 'N passed, N failed'.
+The archives are built (archives.py), unless a folder with them is given. Then: an archive exports just what its header has, and needs
+nothing that isn't listed; a C program, the Rust crate and the Python module answer the rows of `test_outcome`, of `test_places` and of
+c/tests/*.tsv, and C those of captured messages too, and whatever bit of a row is turned; each request for memory is refused in turn;
+validators and decoders are compared for three seconds; the examples run, and the commands of the READMEs in c/, rust/ and python/; the C
+of docs/CALLERS.md is compiled, and python/tests/vectors.py reads rows; archives of other headers, or without a mark of theirs, are refused.
+`cc`, `c++`, `nm` and `cargo` have to be there. CMake, pkg-config and valgrind are tried where they are. Last 'N passed, N failed'.
 """
 from __future__ import annotations
 
@@ -21,18 +20,15 @@ import tempfile
 from collections.abc import Callable
 
 import archives
-import exports
 from lib import exported
 from lib.caller_examples import boundary, hello, readmes, sender, stream
-from lib.caller_inputs import PAGE, USED, answered, captured, hellos, listed_enums, listed_messages, statuses_of, vector, written_in_c
+from lib.caller_inputs import PLACES, SIGNED, USED, captured, hellos, vector, written_in_c
 from lib.caller_room import ALL, C, COMMIT, DECODERS, PYTHON, SANITIZED, WARNINGS, Room
+from lib.exports_c import MARK, minor
 from lib.failed import Failed
-from lib.libraries import CRATES, ROWS, TOP, Libraries
-from lib.registries import ENUMS
+from lib.libraries import ROWS, TOP, Libraries
 from lib.shared_object import SHARED
 
-SIGNED = C / "tests" / "signed.tsv"
-PLACES = [CRATES / "test_places" / "stdout", C / "tests" / "lengths.tsv"]
 # What an archive may need of whoever links it, and what one of decoders may.
 MEMORY = {"memcpy", "memmove", "memset", "memcmp", "bcmp"}
 HEAP = {"rattle_alloc", "rattle_realloc", "rattle_dealloc"}
@@ -52,7 +48,7 @@ find_package(tls_codec 0.1 QUIET)
 if(tls_codec_FOUND)
   message(FATAL_ERROR "another version is found")
 endif()
-find_package(tls_codec 0.2 REQUIRED)
+find_package(tls_codec {minor} REQUIRED)
 add_executable(found {C}/tests/rows.c)
 target_link_libraries(found PRIVATE {targets})
 """
@@ -76,26 +72,6 @@ def archive_has_its_exports(room: Room, crate: str) -> None:
     beyond = names(room, crate, "--undefined-only") - MEMORY - (HEAP if crate in DECODERS else set())
     if beyond:
         raise Failed(f"it wants {sorted(beyond)}")
-
-
-def declared(room: Room) -> None:
-    differ = [str(path) for path, text in exports.files().items() if not path.is_file() or path.read_text(encoding="utf-8") != text]
-    if differ:
-        raise Failed(f"tools/exports.py writes others: {differ}")
-    if statuses_of(PAGE) != statuses_of(C / "include" / "tls_codec" / "outcome.h"):
-        raise Failed(f"{PAGE.name} has other numbers of the statuses than outcome.h")
-    differ = listed_messages() ^ {it.subject for crate in DECODERS for it in exported.exports_of(crate)}
-    if differ:
-        raise Failed(f"{PAGE.name} lists other messages than the archives have: {sorted(differ)}")
-    if listed_enums() != {library: set(enums) for library, enums in ENUMS.items()}:
-        raise Failed(f"{PAGE.name} lists other enums than the headers have: {listed_enums()}")
-
-
-def rows_name_each_call(room: Room) -> None:
-    """The calls that a row accepts are just the exports."""
-    differ = {it.name for crate in ALL for it in exported.exports_of(crate)} ^ answered(PLACES, SIGNED)
-    if differ:
-        raise Failed(f"exports that no row accepts, or rows of no export: {sorted(differ)}")
 
 
 def captured_rows(room: Room) -> pathlib.Path:
@@ -208,13 +184,13 @@ def mix(room: Room) -> None:
     refused = [(call, 1), (["cargo", "check", "--offline", "--quiet"], 101)]
     if shutil.which("cmake"):
         refused.append((["cmake", "-S", C, "-B", room.folder / "unbuilt", f"-DTLS_CODEC_ARCHIVES={folder}"], 1))
-    (folder / exports.MARK).write_text("0.1.0 0\n")
-    for said in ("0.1.0 0", str(folder / exports.MARK)):
+    (folder / MARK).write_text("0.1.0 0\n")
+    for said in ("0.1.0 0", str(folder / MARK)):
         for words, status in refused:
             # CMake breaks lines
             if said not in " ".join(room.run(words, status=status, cwd=TOP / "rust", env=env).decode().split()):
                 raise Failed(f"{words[0]} doesn't say {said}")
-        (folder / exports.MARK).unlink(missing_ok=True)
+        (folder / MARK).unlink(missing_ok=True)
 
 
 def cmake(room: Room) -> None:
@@ -237,7 +213,7 @@ def cmake(room: Room) -> None:
     user = room.folder / "found"
     user.mkdir()
     targets = " ".join(f"tls_codec::{exported.module_of(it)}" for it in ALL)
-    (user / "CMakeLists.txt").write_text(FOUND.format(C=C, targets=targets))
+    (user / "CMakeLists.txt").write_text(FOUND.format(C=C, minor=minor(), targets=targets))
     room.run(["cmake", "-S", user, "-B", user / "build", f"-DCMAKE_PREFIX_PATH={installed.resolve()}"])
     room.run(["cmake", "--build", user / "build"])
     room.run([user / "build" / "found", ROWS[1]])
@@ -247,7 +223,7 @@ def cmake_of_one(room: Room) -> None:
     """A project that links one archive, where the others aren't there; and c/ with that one."""
     folder = room.folder / "one"
     folder.mkdir()
-    for it in (exported.archive_of("mls_c"), exports.MARK):
+    for it in (exported.archive_of("mls_c"), MARK):
         shutil.copy(room.archives / it, folder)
     (folder / "CMakeLists.txt").write_text(ONE.format(C=C))
     room.run(["cmake", "-S", folder, "-B", folder / "build", f"-DTLS_CODEC_ARCHIVES={folder.resolve()}"])
@@ -284,8 +260,8 @@ def valgrind(room: Room) -> None:
         room.run(["valgrind", "--quiet", "--error-exitcode=9", "--leak-check=full", places, rows])
 
 
-TESTS = [declared, rows_name_each_call, rows_in_c, rows_with_sanitizers, places_in_c, numbers_in_c, signed_in_c, memory_refused]
-TESTS += [page_in_c, cplusplus, boundary, stream, hello, sender, readmes, rust, python, vectors, mix]
+TESTS = [rows_in_c, rows_with_sanitizers, places_in_c, numbers_in_c, signed_in_c, memory_refused, page_in_c, cplusplus]
+TESTS += [boundary, stream, hello, sender, readmes, rust, python, vectors, mix]
 
 
 def build(folder: pathlib.Path) -> None:
@@ -299,7 +275,7 @@ def build(folder: pathlib.Path) -> None:
 
 def all_tests() -> dict[str, Callable[[Room], None]]:
     """The tests by their names, without those of tools that aren't there. Archives that are built here get their mark first."""
-    tests: dict[str, Callable[[Room], None]] = {} if sys.argv[1:] else {exports.MARK: lambda room: archives.put_mark(room.archives)}
+    tests: dict[str, Callable[[Room], None]] = {} if sys.argv[1:] else {MARK: lambda room: archives.put_mark(room.archives)}
     tests |= {exported.archive_of(it): lambda room, it=it: archive_has_its_exports(room, it) for it in ALL}
     tests |= {it.__name__: it for it in TESTS}
     for it, command in ((cmake, "cmake"), (cmake_of_one, "cmake"), (pkg_config, "pkg-config"), (valgrind, "valgrind")):

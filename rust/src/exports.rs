@@ -1,4 +1,4 @@
-//! Written by tools/exports.py. Don't edit.
+//! Written by tools/check_exports.py. Don't edit.
 
 /// The result of a call.
 #[repr(C)]
@@ -1264,7 +1264,15 @@ pub mod mls {
             pub fn mls_key_package_validate_prefix(bytes: *const u8, length: usize) -> Outcome;
             pub fn mls_leaf_node_validate_prefix(bytes: *const u8, length: usize) -> Outcome;
             pub fn mls_ratchet_tree_validate_prefix(bytes: *const u8, length: usize) -> Outcome;
-            pub fn mls_framed_content_tbs_encode(wire_format: u16, content: *const u8, content_length: usize, context: *const u8, context_length: usize, out: *mut u8, out_length: usize) -> Outcome;
+            pub fn mls_framed_content_tbs_encode(
+                wire_format: u16,
+                content: *const u8,
+                content_length: usize,
+                context: *const u8,
+                context_length: usize,
+                out: *mut u8,
+                out_length: usize,
+            ) -> Outcome;
             pub fn mls_message_wire_format(bytes: *const u8, length: usize, wire_format: &mut u16) -> Outcome;
         }
     }
@@ -1926,7 +1934,14 @@ pub mod mls {
     /// `FramedContentTBS` (RFC 9420, section 6.1): writes into `out` what `SignWithLabel` (section 5.1.2) signs of a message, under the label `FramedContentTBS`: the version, the wire format, the encoding of a `FramedContent`, and that of a `GroupContext` if the sender is a member or a new member that commits; else `context` is empty. Any wire format is written; a public message has 1, a private message 2. Returns the written bytes, if all of them are accepted. Else the error is that of validation, and its place counts from the first byte of `out`, which they stay in; a context that isn't signed is `TrailingData`. `out` has to have at least 4 + `content.len()` + `context.len()` bytes, the number of those that are written. If it has fewer, nothing is written, and the error is `InvalidWriteLength`. `Ok` says that the written bytes are a `FramedContentTBS`, not that `content` ends where you say: validate both parts before, or take them from `locate_NAME`.
     pub fn framed_content_tbs<'a>(wire_format: u16, content: &[u8], context: &[u8], out: &'a mut [u8]) -> Result<&'a [u8], Rejected> {
         // SAFETY: each pointer and its length are of one slice, nothing else changes or reads it during the call, and the call keeps no pointer.
-        let outcome = unsafe { foreign::mls_framed_content_tbs_encode(wire_format, content.as_ptr(), content.len(), context.as_ptr(), context.len(), out.as_mut_ptr(), out.len()) };
+        let outcome = unsafe {
+            foreign::mls_framed_content_tbs_encode(
+                wire_format,
+                content.as_ptr(), content.len(),
+                context.as_ptr(), context.len(),
+                out.as_mut_ptr(), out.len(),
+            )
+        };
         written_as(out, 4 + content.len() + context.len(), outcome)
     }
 

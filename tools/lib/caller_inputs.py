@@ -1,5 +1,5 @@
-"""What test_callers.py tries beside the rows: a test vector of them, captured messages, and the C of docs/CALLERS.md; and the calls that
-rows answer."""
+"""What test_callers.py tries beside the rows: a test vector of them, captured messages, and the C of docs/CALLERS.md; and what
+check_exports.py compares: the calls that rows answer, and the lists of that page."""
 from __future__ import annotations
 
 import pathlib
@@ -10,6 +10,8 @@ from lib.failed import Failed
 from lib.libraries import CRATES, ROWS, TOP
 
 PAGE = TOP / "docs" / "CALLERS.md"
+PLACES = [CRATES / "test_places" / "stdout", TOP / "c" / "tests" / "lengths.tsv"]
+SIGNED = TOP / "c" / "tests" / "signed.tsv"
 CAPTURED = CRATES / "test_tls13" / "src" / "tests" / "captured"
 # A test vector's names, by python/tests/vectors.py, and the row of each: its message, and what its hex begins with, except for a proposal.
 VECTOR = {
@@ -127,6 +129,11 @@ def written_in_c() -> list[str]:
 def statuses_of(path: pathlib.Path) -> list[str]:
     """The numbers of the statuses that a page or a header has."""
     return sorted(set(re.findall(r"TLS_CODEC_\w+ = \d+", path.read_text(encoding="utf-8"))))
+
+
+def listed_archives() -> dict[str, str]:
+    """The archives that docs/CALLERS.md lists, with their headers: the first two cells of rows."""
+    return dict(re.findall(r"^\| `(libtls_codec_\w+\.a)` \| `(tls_codec/\w+\.h)` \|", PAGE.read_text(encoding="utf-8"), re.M))
 
 
 def listed_messages() -> set[str]:

@@ -6,6 +6,7 @@ import shutil
 import subprocess
 
 from lib import exported
+from lib.exports_c import MARK
 from lib.failed import Failed
 from lib.libraries import CRATES, TOP
 from lib.shared_object import SHARED, put_shared
@@ -45,7 +46,7 @@ class Room:
         """All archives in one, as `archives.py --shared` makes it, with their mark beside it."""
         if not (self.folder / SHARED).is_file():
             put_shared(self.archives, self.folder)
-            shutil.copy(self.archives / "tls_codec.version", self.folder)
+            shutil.copy(self.archives / MARK, self.folder)
         return self.folder / SHARED
 
     def program(self, source: str, crates: list[str], *more: str, compiler: str = "cc", flags: list[str] = WARNINGS) -> pathlib.Path:

@@ -8,7 +8,11 @@ from dataclasses import dataclass
 from lib.failed import Failed
 from lib.libraries import TOP, Libraries
 
-WRITTEN = "Written by tools/exports.py"
+WRITTEN = "Written by tools/check_exports.py"
+# The most columns of a comment that is written.
+LONGEST = 100
+# A word that goes beyond them rather than begin a line: the end of a comment in C, or what would be a list or a heading in Markdown.
+STAYS = re.compile(r"\*/|[-+*>#]+|\d+[.)]")
 # The archive beside the others, for decoders: malloc and free by Rattle's names for them.
 HEAP = "libtls_codec_heap.a"
 # Archives, headers of C and modules of the Rust crate that have another name than their library: it is no main header, and a caller may use
@@ -109,9 +113,10 @@ class Export:
         words = [word for name, kind in self.parameters for word in in_c(name, kind)]
         return f"{type_in_c(self.result)} {self.name}({', '.join(words)});"
 
-    def declaration(self) -> str:
+    def declaration(self) -> list[str]:
         words = [word for name, kind in self.parameters for word in in_rust(name, kind)]
-        return f"pub fn {self.name}({', '.join(words)}) -> {self.result};"
+        line = f"pub fn {self.name}({', '.join(words)}) -> {self.result};"
+        return [line] if len(words) < 5 else [f"pub fn {self.name}(", *[f"    {it}," for it in words], f") -> {self.result};"]
 
 
 def length_of(name: str) -> str:
@@ -187,6 +192,17 @@ def type_in_c(kind: str) -> str:
     return name if name.startswith(prefix) else f"{prefix}_{name}"
 
 
+def filled(text: str, first: str, other: str) -> list[str]:
+    """The lines of a comment, which aren't too long: the first begins with `first`, and each other with `other`."""
+    lines, line = [], first
+    for word in text.split():
+        if len(line) + len(word) >= LONGEST and not STAYS.fullmatch(word):
+            lines.append(line)
+            line = other
+        line += f" {word}"
+    return [*lines, line]
+
+
 def words_of(text: str) -> str:
     """What the lines of a doc comment say."""
     return " ".join(it.strip().removeprefix("///").strip() for it in text.strip().splitlines())
@@ -212,6 +228,11 @@ def module_of(crate: str) -> str:
     """What callers name a static library by: its header, and its module in Rust."""
     name = crate.removesuffix("_c")
     return MODULES.get(name, name)
+
+
+def validators() -> list[str]:
+    """The others."""
+    return [it for it in libraries() if it not in decoders()]
 
 
 def archive_of(crate: str) -> str:

@@ -1,8 +1,9 @@
-"""rust/src/exports.rs: what the Rust crate declares of the static libraries, and the functions over it. exports.py writes it."""
+"""rust/src/exports.rs: what the Rust crate declares of the static libraries, and the functions over it. check_exports.py writes it."""
 from __future__ import annotations
 
 from lib.exported import CALLS, MEANINGS, WRITTEN, Export
-from lib.exported import about, archive_of, decoders, exports_of, libraries, module_of, named_as_in_the_rfc, numbers, struct_of, taken_by
+from lib.exported import about, archive_of, decoders, exports_of, libraries, module_of, named_as_in_the_rfc, numbers, struct_of
+from lib.exported import taken_by
 from lib.failed import Failed
 from lib.registries import enums_in_rust
 
@@ -29,6 +30,11 @@ BESIDE = {"mls_framed_content_tbs_encode": 4}
 def linked(crate: str) -> str:
     """A static library's name for the linker."""
     return archive_of(crate).removeprefix("lib").removesuffix(".a")
+
+
+def short(crate: str, export: Export) -> str:
+    """What a call is of, as functions of its module are named."""
+    return export.subject.removeprefix(f"{crate.removesuffix('_c').removesuffix('_check')}_")
 
 
 def field_in_rust(field: str) -> str:
@@ -69,9 +75,9 @@ def elements_in_rust(export: Export, name: str) -> list[str]:
     return [*lines, "    }"]
 
 
-def located_in_rust(module: str, export: Export) -> list[str]:
+def located_in_rust(crate: str, export: Export) -> list[str]:
     """A struct of slices, and the function that finds them."""
-    kind, name = taken_by(export), f"locate_{export.subject.removeprefix(f'{module}_')}"
+    kind, name = taken_by(export), f"locate_{short(crate, export)}"
     if kind == "Span":
         return content_in_rust(export, name)
     it = struct_of(kind)
@@ -105,7 +111,8 @@ def encoder_in_rust(export: Export, name: str) -> list[str]:
     parameters = ", ".join(f"{it}: {kind}" for it, kind in export.parameters).replace("&mut [u8]", "&'a mut [u8]")
     lines = ["", f"    /// {reworded(export)}", f"    pub fn {name}<'a>({parameters}) -> Result<&'a [u8], Rejected> {{"]
     lines += [f"        // SAFETY: {SAFE_TO_WRITE}"]
-    lines += [f"        let outcome = unsafe {{ foreign::{export.name}({', '.join(passed)}) }};"]
+    lines += ["        let outcome = unsafe {", f"            foreign::{export.name}("]
+    lines += [*[f"                {it}," for it in passed], "            )", "        };"]
     if export.name not in BESIDE:
         raise Failed(f"{export.name}: how many bytes it writes beside its parts")
     sizes = [str(BESIDE[export.name]), *[f"{it}.len()" for it in taken if kinds[it] == "&[u8]"]]
@@ -131,10 +138,9 @@ def decoders_in_rust(crate: str) -> list[str]:
         raise Failed(f"{crate}: its text ends in other words")
     body = ["", f"/// {text}.", '#[cfg(feature = "check")]', f"pub mod {name} {{", "    use crate::{Error, split, whole};", ""]
     body += ["    mod foreign {", "        use crate::Outcome;", "", f'        #[link(name = "{linked(crate)}", kind = "static")]']
-    body += ['        unsafe extern "C" {', *[f"            {it.declaration()}" for it in exports], "        }", "    }"]
+    body += ['        unsafe extern "C" {', *[f"            {line}" for it in exports for line in it.declaration()], "        }", "    }"]
     for it in exports:
-        short = it.subject.removeprefix(f"{name.removesuffix('_check')}_")
-        body += asked_in_rust(it, f"decode_check_{short}", "Error", (", by the decoder", ".map_err(|it| it.error)"))
+        body += asked_in_rust(it, f"decode_check_{short(crate, it)}", "Error", (", by the decoder", ".map_err(|it| it.error)"))
     return [*body, "}"]
 
 
@@ -159,18 +165,18 @@ def module_in_rust(crate: str) -> list[str]:
     for it in taken:
         body += [f"        {line}" for line in struct_in_rust(it)] + [""]
     body += [f'        #[link(name = "{linked(crate)}", kind = "static")]', '        unsafe extern "C" {']
-    body += [f"            {it.declaration()}" for it in exports]
+    body += [f"            {line}" for it in exports for line in it.declaration()]
     body += ["        }", "    }", *enums_in_rust(name)]
     for it in by_call["_validate_prefix"]:
-        body += asked_in_rust(it, f"validate_{it.subject.removeprefix(f'{name}_')}", "Rejected", ("", ""))
+        body += asked_in_rust(it, f"validate_{short(crate, it)}", "Rejected", ("", ""))
     for it in located:
-        body += located_in_rust(name, it)
+        body += located_in_rust(crate, it)
     for it in by_call["_wire_format"]:
         body += number_in_rust(it, it.name.removeprefix(f"{name}_"))
     for it in encoders:
-        body += encoder_in_rust(it, it.subject.removeprefix(f"{name}_"))
+        body += encoder_in_rust(it, short(crate, it))
     for it in lists:
-        body += elements_in_rust(it, it.subject.removeprefix(f"{name}_"))
+        body += elements_in_rust(it, short(crate, it))
     return [*body, "}"]
 
 
