@@ -2,8 +2,8 @@
 """check_exports.py [--write]: compares what callers in C, Rust and Python declare with what the static libraries export, or writes it.
 
 Each static library of crates.txt is read, each function that it exports, of `tls_codec_outcome` the struct and the numbers of the errors,
-and of the texts in crates/tlsgen/data a few enums. By these are written: c/include/tls_codec/*.h, c/tests/exports.inc, rust/src/exports.rs
-and python/tls_codec_exports.py; the version of CHANGELOG.md and the names of the archives, in lines of files
+and of the texts in crates/tlsgen/data a few enums. By these are written: c/include/tls_codec/*.h, c/tests/exports.inc, rust/src/exports.rs,
+rust/tests/common/exports.rs and python/tls_codec_exports.py; the version of CHANGELOG.md and the names of the archives, in lines of files
 that are written by hand otherwise (LINES); and files that say which headers these are of (MARKS). By the version and a sum of the headers
 callers in C (TLS_CODEC_HEADERS), C and Rust (MARKS) and in Python find out whether archives are of other headers.
 
@@ -23,7 +23,7 @@ from lib import exported
 from lib.caller_inputs import PAGE, PLACES, SIGNED, answered, listed_archives, listed_enums, listed_messages, statuses_of
 from lib.exports_c import INCLUDE, MARK, header, mark, minor, outcome_header, table, umbrella, version
 from lib.exports_python import exports_python
-from lib.exports_rust import exports_rust, linked
+from lib.exports_rust import exports_rust, linked, tests_rust
 from lib.failed import Failed
 from lib.libraries import TOP
 from lib.registries import ENUMS
@@ -82,6 +82,7 @@ def files() -> dict[pathlib.Path, Callable[[], str]]:
     found |= {INCLUDE / f"{exported.module_of(it)}.h": lambda it=it: header(it) for it in exported.libraries()}
     found[TOP / "c" / "tests" / "exports.inc"] = table
     found[TOP / "rust" / "src" / "exports.rs"] = exports_rust
+    found[TOP / "rust" / "tests" / "common" / "exports.rs"] = tests_rust
     found[TOP / "python" / "tls_codec_exports.py"] = exports_python
     found |= {TOP / it / MARK: lambda: f"{mark()}\n" for it in MARKS}
     return found | {TOP / it: lambda it=it: with_lines(it, read(it)) for it, _, _ in LINES}

@@ -1,9 +1,12 @@
-"""rust/src/exports.rs: what the Rust crate declares of the static libraries, and the functions over it. check_exports.py writes it."""
+"""rust/src/exports.rs: what the Rust crate declares of the static libraries, and the functions over it; and the list of them for its tests,
+rust/tests/common/exports.rs. check_exports.py writes both."""
 from __future__ import annotations
 
+import re
+
 from lib.exported import CALLS, MEANINGS, WRITTEN, Export
-from lib.exported import about, archive_of, decoders, exports_of, libraries, module_of, named_as_in_the_rfc, numbers, struct_of
-from lib.exported import taken_by
+from lib.exported import about, archive_of, decoders, exports_of, filled, libraries, module_of, named_as_in_the_rfc, numbers, struct_of
+from lib.exported import taken_by, validators
 from lib.failed import Failed
 from lib.registries import enums_in_rust
 
@@ -23,6 +26,16 @@ REWORDED = {
 }
 # Words of Rust that fields have as names.
 KEYWORDS = {"type"}
+# A line that is a comment alone: its beginning, and the text.
+COMMENT = re.compile(r"( *//[/!]?) (.*)")
+# What the macros for tests pass on, by their names.
+EACH = {
+    "message": "message: its name in C, the two functions of its validator, and the two of its decoder",
+    "located": "call that finds fields: its name in C, its function, and its struct's fields in order",
+    "content": "call that finds the content after a length: its name in C, and its function",
+    "list": "call that finds an element: its name in C, and the function of a list's iterator",
+}
+BREAK = ",\n" + 16 * " "
 # How many bytes an encoder writes beside its parts: of a FramedContentTBS the version and the wire format.
 BESIDE = {"mls_framed_content_tbs_encode": 4}
 
@@ -35,6 +48,12 @@ def linked(crate: str) -> str:
 def short(crate: str, export: Export) -> str:
     """What a call is of, as functions of its module are named."""
     return export.subject.removeprefix(f"{crate.removesuffix('_c').removesuffix('_check')}_")
+
+
+def wrapped(lines: list[str]) -> str:
+    """These lines, with comments in lines that aren't too long."""
+    found = [(line, COMMENT.fullmatch(line)) for line in lines]
+    return "\n".join(it for line, text in found for it in (filled(text[2], text[1], text[1]) if text else [line]))
 
 
 def field_in_rust(field: str) -> str:
@@ -196,4 +215,29 @@ def exports_rust() -> str:
     body += ["", *struct_in_rust("Span")]
     for crate in libraries():
         body += decoders_in_rust(crate) if crate in decoders() else module_in_rust(crate)
-    return "\n".join([*body, ""])
+    return wrapped([*body, ""])
+
+
+def each(name: str, lines: list[str]) -> list[str]:
+    """A macro that passes lines to another one."""
+    head = ["", f"/// Passes to a macro each {EACH[name]}.", "#[allow(unused_macros)]", f"macro_rules! each_{name} {{"]
+    return [*head, "    ($to:ident) => {", "        $to! {", *[f"            {it};" for it in lines], "        }", "    };", "}"]
+
+
+def tests_rust() -> str:
+    """The list for tests in Rust, as exports.inc is one for those in C."""
+    decode = {it.subject: f"{module_of(crate)}::decode_check_{short(crate, it)}" for crate in decoders() for it in exports_of(crate)}
+    lines: dict[str, list[str]] = {name: [] for name in EACH}
+    for crate, it in ((crate, it) for crate in validators() for it in exports_of(crate)):
+        module, name = module_of(crate), short(crate, it)
+        if it.call == "_validate_prefix" and it.subject in decode:
+            calls = [f"{call}, {call}_prefix" for call in (f"{module}::validate_{name}", decode[it.subject])]
+            lines["message"].append(f'"{it.subject}": {BREAK.join(calls)}')
+        elif it.call == "_locate" and taken_by(it) == "Span":
+            lines["content"].append(f'"{it.name}": {module}::locate_{name}')
+        elif it.call == "_locate":
+            fields = " ".join(field_in_rust(field) for _, field, _ in struct_of(taken_by(it)).fields)
+            lines["located"].append(f'"{it.name}": {module}::locate_{name}{BREAK}{fields}')
+        elif it.call == "_next":
+            lines["list"].append(f'"{it.name}": {module}::{name}_elements')
+    return wrapped([f"//! {WRITTEN}. Don't edit.", *[line for name in EACH for line in each(name, lines[name])], ""])
