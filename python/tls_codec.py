@@ -24,7 +24,7 @@ __version__ = VERSION
 Buffer = Union[bytes, bytearray, memoryview]
 
 
-def plain(data: Buffer) -> bytes:
+def _plain(data: Buffer) -> bytes:
     """The bytes themselves, or a copy of those in a buffer, such as `recv_into` fills."""
     return data if isinstance(data, bytes) else bytes(memoryview(data))
 
@@ -56,46 +56,53 @@ class Rejected(ValueError):
 
 
 class Validators:
-    """The calls of a shared object. If tls_codec.version of the archives lies beside it, they have to be of this version."""
+    """The calls of a shared object. tls_codec.version of its archives has to lie beside it, and to have the line MARK of tls_codec_exports:
+    else an ImportError says what it has."""
 
     def __init__(self, path: str) -> None:
         mark = pathlib.Path(path).with_name("tls_codec.version")
-        found = mark.read_text(encoding="utf-8").strip() if mark.is_file() else MARK
+        if not mark.is_file():
+            raise ImportError(f"{mark} is not there: tools/archives.py --shared puts it beside the shared object")
+        found = mark.read_text(encoding="utf-8").strip()
         if found != MARK:
-            raise ImportError(f"the archives are of {found!r}, and not of {MARK!r}: {mark}")
+            raise ImportError(f"{mark} has {found!r}, and this module is of {MARK!r}")
         self.library = ctypes.CDLL(path)
 
-    def named(self, subject: str, ending: str = "") -> Callable[..., Outcome]:
+    def _named(self, subject: str, ending: str = "") -> Callable[..., Outcome]:
         """The function of this name and its ending. A LookupError lists the names that have this ending."""
         if subject + ending not in CALLS:
             known = sorted(it[: len(it) - len(ending)] for it in CALLS if it.endswith(ending))
             raise LookupError(f"there is no {subject!r}, but {', '.join(known)}")
+        return self._function(subject + ending)
+
+    def _function(self, name: str) -> Callable[..., Outcome]:
+        """The function of this name."""
         try:
-            return self.library[subject + ending]
+            return self.library[name]
         except AttributeError:
-            raise LookupError(f"this shared object has no {subject + ending!r}") from None
+            raise LookupError(f"this shared object has no {name!r}") from None
 
     def outcome(self, name: str, data: Buffer, *filled: object) -> Outcome:
         """What a function says of the bytes, which is named as in the headers. It is given what it is to fill."""
-        return self.outcome_of(self.named(name), data, *filled)
+        return self._outcome_of(self._named(name), data, *filled)
 
-    def outcome_of(self, call: Callable[..., Outcome], data: Buffer, *filled: object) -> Outcome:
-        """The same of a function that `named` found."""
-        data = plain(data)
+    def _outcome_of(self, call: Callable[..., Outcome], data: Buffer, *filled: object) -> Outcome:
+        """The same of a function that `_named` found."""
+        data = _plain(data)
         call.restype, call.argtypes = Outcome, [ctypes.c_char_p, ctypes.c_size_t, *[ctypes.c_void_p] * len(filled)]
         return call(data, len(data), *map(ctypes.byref, filled))
 
-    def accepted(self, call: Callable[..., Outcome], data: Buffer, *filled: object) -> Outcome:
+    def _accepted(self, call: Callable[..., Outcome], data: Buffer, *filled: object) -> Outcome:
         """The same of bytes that are accepted."""
-        outcome = self.outcome_of(call, data, *filled)
+        outcome = self._outcome_of(call, data, *filled)
         if outcome.status:
             raise Rejected(outcome.status, outcome.at, outcome.detail)
         return outcome
 
     def validate_prefix(self, message: str, data: Buffer) -> tuple[bytes, bytes]:
         """The message that the bytes begin with, and the rest. The message is named as in the headers, without `_validate_prefix`."""
-        data = plain(data)
-        outcome = self.accepted(self.named(message, "_validate_prefix"), data)
+        data = _plain(data)
+        outcome = self._accepted(self._named(message, "_validate_prefix"), data)
         return data[: outcome.taken], data[outcome.taken :]
 
     def validate(self, message: str, data: Buffer) -> bytes:
@@ -111,25 +118,25 @@ class Validators:
         If it isn't to be the whole, other bytes may come after it. WITH_LENGTH of tls_codec_exports has the fields whose bytes begin with a
         length, such as a list's.
         """
-        call, data = self.named(message, "_locate"), plain(data)
+        call, data = self._named(message, "_locate"), _plain(data)
         names = FIELDS[message]
         spans = (Span * len(names))()
-        outcome = self.accepted(call, data, spans)
+        outcome = self._accepted(call, data, spans)
         if whole and outcome.taken != len(data):
             raise Rejected(STATUSES.index("TrailingData"), outcome.taken)
         return {name: span.of(data) for name, span in zip(names, spans)}
 
     def decode_check(self, message: str, data: Buffer) -> Outcome:
         """What the decoder says: the status is 0 if the bytes begin with the message, which has `taken` bytes."""
-        return self.outcome_of(self.named(message, "_decode_check"), data)
+        return self._outcome_of(self._named(message, "_decode_check"), data)
 
     def elements(self, element: str, content: Buffer) -> Iterator[bytes]:
         """The elements of a list, from the bytes after its length: named as in the headers, without `_next`."""
-        call, content = self.named(element, "_next"), plain(content)
+        call, content = self._named(element, "_next"), _plain(content)
         left, found = Span(0, len(content)), Span()
         while left.size:
             at = left.offset
-            outcome = self.outcome_of(call, content, left, found)
+            outcome = self._outcome_of(call, content, left, found)
             if outcome.status:
                 raise Rejected(outcome.status, at + outcome.at, outcome.detail)
             yield found.of(content)
@@ -137,15 +144,15 @@ class Validators:
     def message_wire_format(self, data: Buffer) -> MlsWireFormat:
         """The wire format of the MLSMessage that the bytes begin with. Other numbers have names in tls_codec_exports, as MlsContentType."""
         wire_format = ctypes.c_uint16()
-        self.accepted(self.named("mls_message_wire_format"), data, wire_format)
+        self._accepted(self._named("mls_message_wire_format"), data, wire_format)
         return MlsWireFormat(wire_format.value)
 
     def framed_content_tbs(self, wire_format: int, content: Buffer, context: Buffer = b"") -> bytes:
         """What is signed of a message of MLS, by the encodings of its FramedContent and, if it is signed too, of its GroupContext."""
         if not 0 <= wire_format < 1 << 16:
             raise ValueError(f"a wire format is a number of 16 bits, which {wire_format} isn't")
-        content, context = plain(content), plain(context)
-        call, out = self.library["mls_framed_content_tbs_encode"], ctypes.create_string_buffer(4 + len(content) + len(context))
+        content, context = _plain(content), _plain(context)
+        call, out = self._function("mls_framed_content_tbs_encode"), ctypes.create_string_buffer(4 + len(content) + len(context))
         call.restype, pair = Outcome, [ctypes.c_char_p, ctypes.c_size_t]
         call.argtypes = [ctypes.c_uint16, *pair, *pair, ctypes.c_void_p, ctypes.c_size_t]
         outcome = call(wire_format, content, len(content), context, len(context), out, len(out))

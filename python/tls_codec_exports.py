@@ -1,4 +1,4 @@
-"""Written by tools/exports.py. Don't edit."""
+"""Written by tools/check_exports.py. Don't edit."""
 
 import enum
 
@@ -6,7 +6,7 @@ import enum
 VERSION = "0.2.0"
 
 # What archives of this version and these headers have beside them.
-MARK = "0.2.0 2b9807c85a4ec5fa"
+MARK = "0.2.0 db2eeefa5796f45a"
 
 # The names of the statuses, by their numbers.
 STATUSES = [

@@ -17,10 +17,11 @@ import subprocess
 import sys
 import tempfile
 
-import exports
 from lib.exported import HEAP, archive_of
+from lib.exports_c import MARK, mark
+from lib.failed import Failed
 from lib.libraries import CRATES, TOP, Libraries
-from lib.shared_object import SHARED, NotLinked, put_shared
+from lib.shared_object import SHARED, put_shared
 
 TARGET = "x86_64-unknown-linux-gnu"
 # Up to which cost LLVM copies a function into its callers; its own bound is 225. Messages of one archive share the validators of their
@@ -30,10 +31,6 @@ INLINED = 1500
 BUILT = "tls_codec.built"
 # The folders of a crate that its proof is read from.
 SOURCES = ("src", "specs", "proofs", "c")
-
-
-class NotBuilt(Exception):
-    """The output, where no archive was built."""
 
 
 def is_stale(libraries: Libraries, crate: str) -> bool:
@@ -60,7 +57,7 @@ def ran(words: list[str], crate: str) -> None:
     how = {"stdin": subprocess.DEVNULL, "stdout": subprocess.PIPE, "stderr": subprocess.STDOUT}
     output = subprocess.run(words, cwd=CRATES / crate, text=True, errors="replace", **how)
     if output.returncode:
-        raise NotBuilt(f"{crate}: {output.stdout[-3000:]}")
+        raise Failed(f"{crate}: {output.stdout[-3000:]}")
 
 
 def toolchain(kit: pathlib.Path, folder: pathlib.Path) -> pathlib.Path:
@@ -83,7 +80,7 @@ def build_below(libraries: Libraries, crate: str) -> None:
         if it in libraries.uses:
             ran(["rt", "lib"], it)
     if libraries.lacking(crate):
-        raise NotBuilt(f"{crate}: rt lib left no {libraries.lacking(crate)}")
+        raise Failed(f"{crate}: rt lib left no {libraries.lacking(crate)}")
 
 
 def build(libraries: Libraries, crate: str, folder: pathlib.Path, target: str = TARGET) -> None:
@@ -104,7 +101,7 @@ def put_heap(libraries: Libraries, folder: pathlib.Path) -> None:
 def put_mark(folder: pathlib.Path) -> None:
     """Writes down which headers the archives are of, and what they were built from."""
     (folder / BUILT).write_text(built_from(folder), encoding="utf-8")
-    (folder / exports.MARK).write_text(f"{exports.mark()}\n", encoding="utf-8")
+    (folder / MARK).write_text(f"{mark()}\n", encoding="utf-8")
 
 
 def printed(*words: str) -> str:
@@ -132,9 +129,11 @@ def main() -> int:
         return 1
     folder.mkdir(parents=True, exist_ok=True)
     libraries = Libraries()
-    for it in (exports.MARK, BUILT):
+    for it in (MARK, BUILT):
         (folder / it).unlink(missing_ok=True)
     try:
+        # (cached: what can't be read fails here, before the proofs)
+        mark()
         if target == TARGET:
             put_heap(libraries, folder)
         for crate in libraries.static:
@@ -143,7 +142,7 @@ def main() -> int:
         if is_shared:
             print(put_shared(folder, folder), flush=True)
         put_mark(folder)
-    except (NotBuilt, NotLinked, OSError) as error:
+    except (Failed, OSError) as error:
         print(error)
         return 1
     return 0

@@ -1,13 +1,12 @@
 #!/usr/bin/env python3
 """test_callers.py [ARCHIVES]: tests what callers in C, C++, Rust and Python are given. It runs after `rt ci`, over what that proved.
 
-The archives are built (archives.py), unless a folder with them is given. Then: the headers and declarations are those that
-exports.py writes; an archive exports just what its header has, and needs nothing that isn't listed; a C program, the Rust crate and the
-Python module answer the rows of `test_outcome`, of `test_places` and of c/tests/*.tsv, which name each call, and C those of captured
-messages too, and whatever bit of a row is turned; each request for memory is refused in turn; validators and decoders are compared for
-three seconds; the examples run, and the commands of the READMEs in c/, rust/ and python/; the C of docs/CALLERS.md is compiled, and
-python/tests/vectors.py reads rows; archives of other headers are refused. `cc`, `c++`, `nm` and `cargo` have to be there. CMake,
-pkg-config and valgrind are tried where they are. Last 'N passed, N failed'.
+The archives are built (archives.py), unless a folder with them is given. Then: an archive exports just what its header has, and needs
+nothing that isn't listed; a C program, the Rust crate and the Python module answer the rows of `test_outcome`, of `test_places` and of
+c/tests/*.tsv, and C those of captured messages too, and whatever bit of a row is turned; each request for memory is refused in turn;
+validators and decoders are compared for three seconds; the examples run, and the commands of the READMEs in c/, rust/ and python/; the C
+of docs/CALLERS.md is compiled, and python/tests/vectors.py reads rows; archives of other headers, or without a mark of theirs, are refused.
+`cc`, `c++`, `nm` and `cargo` have to be there. CMake, pkg-config and valgrind are tried where they are. Last 'N passed, N failed'.
 """
 from __future__ import annotations
 
@@ -18,19 +17,18 @@ import re
 import shutil
 import sys
 import tempfile
+from collections.abc import Callable
 
 import archives
-import exports
 from lib import exported
 from lib.caller_examples import boundary, hello, readmes, sender, stream
-from lib.caller_inputs import PAGE, USED, answered, captured, hellos, listed_enums, listed_messages, statuses_of, vector, written_in_c
-from lib.caller_room import ALL, C, COMMIT, DECODERS, PYTHON, SANITIZED, WARNINGS, Failed, Room
-from lib.libraries import CRATES, ROWS, TOP, Libraries
-from lib.registries import ENUMS
+from lib.caller_inputs import PLACES, SIGNED, USED, captured, hellos, vector, written_in_c
+from lib.caller_room import ALL, C, COMMIT, DECODERS, PYTHON, SANITIZED, WARNINGS, Room
+from lib.exports_c import MARK, minor
+from lib.failed import Failed
+from lib.libraries import ROWS, TOP, Libraries
 from lib.shared_object import SHARED
 
-SIGNED = C / "tests" / "signed.tsv"
-PLACES = [CRATES / "test_places" / "stdout", C / "tests" / "lengths.tsv"]
 # What an archive may need of whoever links it, and what one of decoders may.
 MEMORY = {"memcpy", "memmove", "memset", "memcmp", "bcmp"}
 HEAP = {"rattle_alloc", "rattle_realloc", "rattle_dealloc"}
@@ -42,13 +40,17 @@ add_subdirectory({C} tls_codec)
 add_executable(one {C}/examples/boundary.c)
 target_link_libraries(one PRIVATE tls_codec::mls)
 """
-# One that finds what is installed, and links a decoder's archive too.
+# One that finds what is installed, and no version before it, and links all archives.
 FOUND = """\
 cmake_minimum_required(VERSION 3.16)
 project(found LANGUAGES C)
-find_package(tls_codec REQUIRED)
+find_package(tls_codec 0.1 QUIET)
+if(tls_codec_FOUND)
+  message(FATAL_ERROR "another version is found")
+endif()
+find_package(tls_codec {minor} REQUIRED)
 add_executable(found {C}/tests/rows.c)
-target_link_libraries(found PRIVATE tls_codec::mls tls_codec::tls13 tls_codec::lengths tls_codec::mls_check tls_codec::tls13_check)
+target_link_libraries(found PRIVATE {targets})
 """
 # The files of rust/tests, and those that test nothing without the feature `check`.
 RUST_TESTS = ["places", "rows", "signed"]
@@ -70,26 +72,6 @@ def archive_has_its_exports(room: Room, crate: str) -> None:
     beyond = names(room, crate, "--undefined-only") - MEMORY - (HEAP if crate in DECODERS else set())
     if beyond:
         raise Failed(f"it wants {sorted(beyond)}")
-
-
-def declared(room: Room) -> None:
-    differ = [str(path) for path, text in exports.files().items() if not path.is_file() or path.read_text(encoding="utf-8") != text]
-    if differ:
-        raise Failed(f"tools/exports.py writes others: {differ}")
-    if statuses_of(PAGE) != statuses_of(C / "include" / "tls_codec" / "outcome.h"):
-        raise Failed(f"{PAGE.name} has other numbers of the statuses than outcome.h")
-    differ = listed_messages() ^ {it.subject for crate in DECODERS for it in exported.exports_of(crate)}
-    if differ:
-        raise Failed(f"{PAGE.name} lists other messages than the archives have: {sorted(differ)}")
-    if listed_enums() != {library: set(enums) for library, enums in ENUMS.items()}:
-        raise Failed(f"{PAGE.name} lists other enums than the headers have: {listed_enums()}")
-
-
-def rows_name_each_call(room: Room) -> None:
-    """The calls that a row accepts are just the exports."""
-    differ = {it.name for crate in ALL for it in exported.exports_of(crate)} ^ answered(PLACES, SIGNED)
-    if differ:
-        raise Failed(f"exports that no row accepts, or rows of no export: {sorted(differ)}")
 
 
 def captured_rows(room: Room) -> pathlib.Path:
@@ -191,7 +173,7 @@ def vectors(room: Room) -> None:
 
 
 def mix(room: Room) -> None:
-    """Archives of other headers: Rust, Python and CMake fail."""
+    """Archives of other headers, and those without a mark: Rust, Python and CMake fail."""
     folder = room.folder / "mix"
     shutil.copytree(room.archives, folder)
     shutil.copy(room.shared_object(), folder)
@@ -199,14 +181,16 @@ def mix(room: Room) -> None:
     env = {**os.environ, "TLS_CODEC_ARCHIVES": str(folder.resolve()), "CARGO_TARGET_DIR": str(room.folder / "mixed")}
     env["PYTHONPATH"] = str(PYTHON)
     room.run(call, env=env)
-    (folder / exports.MARK).write_text("0.1.0 0\n")
     refused = [(call, 1), (["cargo", "check", "--offline", "--quiet"], 101)]
     if shutil.which("cmake"):
         refused.append((["cmake", "-S", C, "-B", room.folder / "unbuilt", f"-DTLS_CODEC_ARCHIVES={folder}"], 1))
-    for words, status in refused:
-        # CMake breaks lines
-        if b"0.1.0 0" not in b" ".join(room.run(words, status=status, cwd=TOP / "rust", env=env).split()):
-            raise Failed(f"{words[0]} doesn't say which archives it found")
+    (folder / MARK).write_text("0.1.0 0\n")
+    for said in ("0.1.0 0", str(folder / MARK)):
+        for words, status in refused:
+            # CMake breaks lines
+            if said not in " ".join(room.run(words, status=status, cwd=TOP / "rust", env=env).decode().split()):
+                raise Failed(f"{words[0]} doesn't say {said}")
+        (folder / MARK).unlink(missing_ok=True)
 
 
 def cmake(room: Room) -> None:
@@ -223,10 +207,13 @@ def cmake(room: Room) -> None:
     for example in ("boundary", "sender"):
         room.run([build / example], bytes.fromhex(COMMIT.read_text()))
     room.run([build / "hello"], hellos()[0][0])
-    room.run([build / "rows", ROWS[1]])
+    output = room.run(["ctest", "--output-on-failure"], cwd=build).decode()
+    if "100% tests passed, 0 tests failed out of 8\n" not in output:
+        raise Failed(output)
     user = room.folder / "found"
     user.mkdir()
-    (user / "CMakeLists.txt").write_text(FOUND.format(C=C))
+    targets = " ".join(f"tls_codec::{exported.module_of(it)}" for it in ALL)
+    (user / "CMakeLists.txt").write_text(FOUND.format(C=C, minor=minor(), targets=targets))
     room.run(["cmake", "-S", user, "-B", user / "build", f"-DCMAKE_PREFIX_PATH={installed.resolve()}"])
     room.run(["cmake", "--build", user / "build"])
     room.run([user / "build" / "found", ROWS[1]])
@@ -236,7 +223,7 @@ def cmake_of_one(room: Room) -> None:
     """A project that links one archive, where the others aren't there; and c/ with that one."""
     folder = room.folder / "one"
     folder.mkdir()
-    for it in (exported.archive_of("mls_c"), exports.MARK):
+    for it in (exported.archive_of("mls_c"), MARK):
         shutil.copy(room.archives / it, folder)
     (folder / "CMakeLists.txt").write_text(ONE.format(C=C))
     room.run(["cmake", "-S", folder, "-B", folder / "build", f"-DTLS_CODEC_ARCHIVES={folder.resolve()}"])
@@ -273,43 +260,51 @@ def valgrind(room: Room) -> None:
         room.run(["valgrind", "--quiet", "--error-exitcode=9", "--leak-check=full", places, rows])
 
 
-TESTS = [declared, rows_name_each_call, rows_in_c, rows_with_sanitizers, places_in_c, numbers_in_c, signed_in_c, memory_refused]
-TESTS += [page_in_c, cplusplus, boundary, stream, hello, sender, readmes, rust, python, vectors, mix]
+TESTS = [rows_in_c, rows_with_sanitizers, places_in_c, numbers_in_c, signed_in_c, memory_refused, page_in_c, cplusplus]
+TESTS += [boundary, stream, hello, sender, readmes, rust, python, vectors, mix]
+
+
+def build(folder: pathlib.Path) -> None:
+    """Builds the archives, as archives.py does."""
+    libraries = Libraries()
+    folder.mkdir()
+    archives.put_heap(libraries, folder)
+    for crate in libraries.static:
+        archives.build(libraries, crate, folder)
+
+
+def all_tests() -> dict[str, Callable[[Room], None]]:
+    """The tests by their names, without those of tools that aren't there. Archives that are built here get their mark first."""
+    tests: dict[str, Callable[[Room], None]] = {} if sys.argv[1:] else {MARK: lambda room: archives.put_mark(room.archives)}
+    tests |= {exported.archive_of(it): lambda room, it=it: archive_has_its_exports(room, it) for it in ALL}
+    tests |= {it.__name__: it for it in TESTS}
+    for it, command in ((cmake, "cmake"), (cmake_of_one, "cmake"), (pkg_config, "pkg-config"), (valgrind, "valgrind")):
+        if shutil.which(command):
+            tests[it.__name__] = it
+        else:
+            print(f"{command} is not there, and was not tried")
+    return tests
 
 
 def main() -> int:
-    passed = failed = 0
+    failed = 0
     with tempfile.TemporaryDirectory(prefix="callers-") as folder:
-        built = pathlib.Path(sys.argv[1]) if sys.argv[1:] else pathlib.Path(folder) / "archives"
-        room = Room(pathlib.Path(folder), built)
-        libraries = Libraries()
-        if not sys.argv[1:]:
-            built.mkdir()
-            try:
-                archives.put_heap(libraries, built)
-                for crate in libraries.static:
-                    archives.build(libraries, crate, built)
-                archives.put_mark(built)
-            except (archives.NotBuilt, OSError) as error:
-                print(f"no archive: {error}\n0 passed, 1 failed")
-                return 1
-        tests = {exported.archive_of(it): lambda room, it=it: archive_has_its_exports(room, it) for it in libraries.static}
-        for it in TESTS:
-            tests[it.__name__] = it
-        for it, command in ((cmake, "cmake"), (cmake_of_one, "cmake"), (pkg_config, "pkg-config"), (valgrind, "valgrind")):
-            if shutil.which(command):
-                tests[it.__name__] = it
-            else:
-                print(f"{command} is not there, and was not tried")
+        room = Room(pathlib.Path(folder), pathlib.Path(sys.argv[1] if sys.argv[1:] else f"{folder}/archives"))
+        try:
+            if not sys.argv[1:]:
+                build(room.archives)
+        except (Failed, OSError) as error:
+            print(f"no archive: FAILED: {error}\n0 passed, 1 failed")
+            return 1
+        tests = all_tests()
         for name, test in tests.items():
             try:
                 test(room)
-                passed += 1
                 print(f"{name}: ok", flush=True)
             except (Failed, OSError) as error:
                 failed += 1
                 print(f"{name}: FAILED: {error}", flush=True)
-    print(f"{passed} passed, {failed} failed")
+    print(f"{len(tests) - failed} passed, {failed} failed")
     return 1 if failed else 0
 
 

@@ -135,7 +135,9 @@ def are_names_listed(validators: Validators) -> bool:
     ]
     bare = Validators(sys.argv[1])
     bare.library = ctypes.CDLL(None)
-    is_lacking = lookup(lambda: bare.validate("mls_message", b"")) == "this shared object has no 'mls_message_validate_prefix'"
+    lacking = [lookup(lambda: bare.validate("mls_message", b"")), lookup(lambda: bare.framed_content_tbs(1, b""))]
+    called = ["mls_message_validate_prefix", "mls_framed_content_tbs_encode"]
+    is_lacking = lacking == [f"this shared object has no {it!r}" for it in called]
     words = [set(re.findall(r"\w+", it)) for it in said]
     listed = ["mls_ratchet_tree", "mls_key_package", "mls_extension", "mls_message_wire_format", "tls13_alert"]
     is_short = "mls_key_package_locate" not in words[1] and "mls_message" not in words[2]

@@ -1,4 +1,4 @@
-//! Written by tools/exports.py. Don't edit.
+//! Written by tools/check_exports.py. Don't edit.
 
 /// The result of a call.
 #[repr(C)]
@@ -16,13 +16,16 @@ pub struct Outcome {
 pub enum Error {
     /// No call returns it. Status 1.
     EncodingError,
-    /// A length or a variable-length integer has more bytes than it needs, or is outside the bounds of its field. Status 2.
+    /// A length or a variable-length integer has more bytes than it needs, or is outside the bounds
+    /// of its field. Status 2.
     InvalidVectorLength,
     /// The buffer to write into is too small. Status 3.
     InvalidWriteLength,
     /// No call returns it. Status 4.
     InvalidInput,
-    /// One of three, which aren't told apart: the content after a variable-length length isn't all there; an element passes the end of its list; the byte before an optional field is neither 0 nor 1. Status 5.
+    /// One of three, which aren't told apart: the content after a variable-length length isn't all
+    /// there; an element passes the end of its list; the byte before an optional field is neither 0
+    /// nor 1. Status 5.
     DecodingError,
     /// The bytes, or the body of a Handshake, end before a field does. Status 6.
     EndOfStream,
@@ -64,7 +67,8 @@ pub struct Span {
     pub size: usize,
 }
 
-/// Checks without allocation whether bytes begin with a variable-length integer, or with bytes after a length.
+/// Checks without allocation whether bytes begin with a variable-length integer, or with bytes
+/// after a length.
 pub mod lengths {
     use crate::{Rejected, Span, split, split_as, whole};
 
@@ -81,47 +85,57 @@ pub mod lengths {
         }
     }
 
-    /// A variable-length integer (RFC 9000, section 16) in its least width: whether `bytes` are one, with nothing after it.
+    /// A variable-length integer (RFC 9000, section 16) in its least width: whether `bytes` are
+    /// one, with nothing after it.
     pub fn validate_varint(bytes: &[u8]) -> Result<(), Rejected> {
         whole(bytes, foreign::tls_codec_varint_validate_prefix)
     }
 
-    /// A variable-length integer (RFC 9000, section 16) in its least width: returns the bytes of the one that `bytes` begin with, and the rest.
+    /// A variable-length integer (RFC 9000, section 16) in its least width: returns the bytes of
+    /// the one that `bytes` begin with, and the rest.
     pub fn validate_varint_prefix(bytes: &[u8]) -> Result<(&[u8], &[u8]), Rejected> {
         split(bytes, foreign::tls_codec_varint_validate_prefix)
     }
 
-    /// `opaque content<V>` (RFC 9420, section 2.1.2), and where its content is. A list `<V>` has its elements there. Returns that content, and the rest of the bytes.
+    /// `opaque content<V>` (RFC 9420, section 2.1.2), and where its content is. A list `<V>` has
+    /// its elements there. Returns that content, and the rest of the bytes.
     pub fn locate_opaque_v(bytes: &[u8]) -> Result<(&[u8], &[u8]), Rejected> {
         let mut found = Span::default();
-        // SAFETY: the pointer and the length are of one slice, nothing changes it during the call, and the call keeps no pointer.
+        // SAFETY: the pointer and the length are of one slice, nothing changes it during the call,
+        // and the call keeps no pointer.
         let outcome = unsafe { foreign::tls_codec_opaque_v_locate(bytes.as_ptr(), bytes.len(), &mut found) };
         let (_, rest) = split_as(bytes, outcome)?;
         Ok((found.of(bytes), rest))
     }
 
-    /// `opaque content<0..2^8-1>` (RFC 8446, section 3.4), and where its content is. Returns that content, and the rest of the bytes.
+    /// `opaque content<0..2^8-1>` (RFC 8446, section 3.4), and where its content is. Returns that
+    /// content, and the rest of the bytes.
     pub fn locate_opaque_u8(bytes: &[u8]) -> Result<(&[u8], &[u8]), Rejected> {
         let mut found = Span::default();
-        // SAFETY: the pointer and the length are of one slice, nothing changes it during the call, and the call keeps no pointer.
+        // SAFETY: the pointer and the length are of one slice, nothing changes it during the call,
+        // and the call keeps no pointer.
         let outcome = unsafe { foreign::tls_codec_opaque_u8_locate(bytes.as_ptr(), bytes.len(), &mut found) };
         let (_, rest) = split_as(bytes, outcome)?;
         Ok((found.of(bytes), rest))
     }
 
-    /// `opaque content<0..2^16-1>`, and where its content is. Returns that content, and the rest of the bytes.
+    /// `opaque content<0..2^16-1>`, and where its content is. Returns that content, and the rest of
+    /// the bytes.
     pub fn locate_opaque_u16(bytes: &[u8]) -> Result<(&[u8], &[u8]), Rejected> {
         let mut found = Span::default();
-        // SAFETY: the pointer and the length are of one slice, nothing changes it during the call, and the call keeps no pointer.
+        // SAFETY: the pointer and the length are of one slice, nothing changes it during the call,
+        // and the call keeps no pointer.
         let outcome = unsafe { foreign::tls_codec_opaque_u16_locate(bytes.as_ptr(), bytes.len(), &mut found) };
         let (_, rest) = split_as(bytes, outcome)?;
         Ok((found.of(bytes), rest))
     }
 
-    /// `opaque content<0..2^24-1>`, and where its content is. Returns that content, and the rest of the bytes.
+    /// `opaque content<0..2^24-1>`, and where its content is. Returns that content, and the rest of
+    /// the bytes.
     pub fn locate_opaque_u24(bytes: &[u8]) -> Result<(&[u8], &[u8]), Rejected> {
         let mut found = Span::default();
-        // SAFETY: the pointer and the length are of one slice, nothing changes it during the call, and the call keeps no pointer.
+        // SAFETY: the pointer and the length are of one slice, nothing changes it during the call,
+        // and the call keeps no pointer.
         let outcome = unsafe { foreign::tls_codec_opaque_u24_locate(bytes.as_ptr(), bytes.len(), &mut found) };
         let (_, rest) = split_as(bytes, outcome)?;
         Ok((found.of(bytes), rest))
@@ -143,7 +157,8 @@ pub mod tls13 {
             pub body: Span,
         }
 
-        /// Where the fields of a `ClientHello` are (RFC 8446, section 4.1.2). A span of `opaque` has the bytes without their length.
+        /// Where the fields of a `ClientHello` are (RFC 8446, section 4.1.2). A span of `opaque`
+        /// has the bytes without their length.
         #[repr(C)]
         #[derive(Clone, Copy, Default)]
         pub struct ClientHelloFields {
@@ -155,7 +170,8 @@ pub mod tls13 {
             pub extensions: Span,
         }
 
-        /// Where the fields of a `ServerHello` are (RFC 8446, section 4.1.3). A span of `opaque` has the bytes without their length.
+        /// Where the fields of a `ServerHello` are (RFC 8446, section 4.1.3). A span of `opaque`
+        /// has the bytes without their length.
         #[repr(C)]
         #[derive(Clone, Copy, Default)]
         pub struct ServerHelloFields {
@@ -174,7 +190,8 @@ pub mod tls13 {
             pub extensions: Span,
         }
 
-        /// Where the fields of a `CertificateRequest` are (RFC 8446, section 4.3.2). A span of `opaque` has the bytes without their length.
+        /// Where the fields of a `CertificateRequest` are (RFC 8446, section 4.3.2). A span of
+        /// `opaque` has the bytes without their length.
         #[repr(C)]
         #[derive(Clone, Copy, Default)]
         pub struct CertificateRequestFields {
@@ -182,7 +199,8 @@ pub mod tls13 {
             pub extensions: Span,
         }
 
-        /// Where the fields of a `Certificate` are (RFC 8446, section 4.4.2). A span of `opaque` has the bytes without their length.
+        /// Where the fields of a `Certificate` are (RFC 8446, section 4.4.2). A span of `opaque`
+        /// has the bytes without their length.
         #[repr(C)]
         #[derive(Clone, Copy, Default)]
         pub struct CertificateFields {
@@ -190,7 +208,8 @@ pub mod tls13 {
             pub certificate_list: Span,
         }
 
-        /// Where the fields of a `CertificateVerify` are (RFC 8446, section 4.4.3). A span of `opaque` has the bytes without their length.
+        /// Where the fields of a `CertificateVerify` are (RFC 8446, section 4.4.3). A span of
+        /// `opaque` has the bytes without their length.
         #[repr(C)]
         #[derive(Clone, Copy, Default)]
         pub struct CertificateVerifyFields {
@@ -198,7 +217,8 @@ pub mod tls13 {
             pub signature: Span,
         }
 
-        /// Where the fields of a `NewSessionTicket` are (RFC 8446, section 4.6.1). A span of `opaque` has the bytes without their length.
+        /// Where the fields of a `NewSessionTicket` are (RFC 8446, section 4.6.1). A span of
+        /// `opaque` has the bytes without their length.
         #[repr(C)]
         #[derive(Clone, Copy, Default)]
         pub struct NewSessionTicketFields {
@@ -216,7 +236,8 @@ pub mod tls13 {
             pub request_update: Span,
         }
 
-        /// Where the fields of a `TLSPlaintext` are (RFC 8446, section 5.1). A span of `opaque` has the bytes without their length.
+        /// Where the fields of a `TLSPlaintext` are (RFC 8446, section 5.1). A span of `opaque` has
+        /// the bytes without their length.
         #[repr(C)]
         #[derive(Clone, Copy, Default)]
         pub struct TLSPlaintextFields {
@@ -225,7 +246,8 @@ pub mod tls13 {
             pub fragment: Span,
         }
 
-        /// Where the fields of a `TLSCiphertext` are (RFC 8446, section 5.2). A span of `opaque` has the bytes without their length.
+        /// Where the fields of a `TLSCiphertext` are (RFC 8446, section 5.2). A span of `opaque`
+        /// has the bytes without their length.
         #[repr(C)]
         #[derive(Clone, Copy, Default)]
         pub struct TLSCiphertextFields {
@@ -515,7 +537,8 @@ pub mod tls13 {
         whole(bytes, foreign::tls13_tls_plaintext_validate_prefix)
     }
 
-    /// `TLSPlaintext` (RFC 8446, section 5.1): returns the bytes of the one that `bytes` begin with, and the rest.
+    /// `TLSPlaintext` (RFC 8446, section 5.1): returns the bytes of the one that `bytes` begin
+    /// with, and the rest.
     pub fn validate_tls_plaintext_prefix(bytes: &[u8]) -> Result<(&[u8], &[u8]), Rejected> {
         split(bytes, foreign::tls13_tls_plaintext_validate_prefix)
     }
@@ -525,7 +548,8 @@ pub mod tls13 {
         whole(bytes, foreign::tls13_tls_ciphertext_validate_prefix)
     }
 
-    /// `TLSCiphertext` (RFC 8446, section 5.2): returns the bytes of the one that `bytes` begin with, and the rest.
+    /// `TLSCiphertext` (RFC 8446, section 5.2): returns the bytes of the one that `bytes` begin
+    /// with, and the rest.
     pub fn validate_tls_ciphertext_prefix(bytes: &[u8]) -> Result<(&[u8], &[u8]), Rejected> {
         split(bytes, foreign::tls13_tls_ciphertext_validate_prefix)
     }
@@ -535,7 +559,8 @@ pub mod tls13 {
         whole(bytes, foreign::tls13_alert_validate_prefix)
     }
 
-    /// `Alert` (RFC 8446, section 6): returns the bytes of the one that `bytes` begin with, and the rest.
+    /// `Alert` (RFC 8446, section 6): returns the bytes of the one that `bytes` begin with, and the
+    /// rest.
     pub fn validate_alert_prefix(bytes: &[u8]) -> Result<(&[u8], &[u8]), Rejected> {
         split(bytes, foreign::tls13_alert_validate_prefix)
     }
@@ -545,7 +570,8 @@ pub mod tls13 {
         whole(bytes, foreign::tls13_handshake_validate_prefix)
     }
 
-    /// `Handshake` (RFC 8446, section 4): returns the bytes of the one that `bytes` begin with, and the rest.
+    /// `Handshake` (RFC 8446, section 4): returns the bytes of the one that `bytes` begin with, and
+    /// the rest.
     pub fn validate_handshake_prefix(bytes: &[u8]) -> Result<(&[u8], &[u8]), Rejected> {
         split(bytes, foreign::tls13_handshake_validate_prefix)
     }
@@ -555,7 +581,8 @@ pub mod tls13 {
         whole(bytes, foreign::tls13_client_hello_validate_prefix)
     }
 
-    /// `ClientHello` (RFC 8446, section 4.1.2): returns the bytes of the one that `bytes` begin with, and the rest.
+    /// `ClientHello` (RFC 8446, section 4.1.2): returns the bytes of the one that `bytes` begin
+    /// with, and the rest.
     pub fn validate_client_hello_prefix(bytes: &[u8]) -> Result<(&[u8], &[u8]), Rejected> {
         split(bytes, foreign::tls13_client_hello_validate_prefix)
     }
@@ -565,27 +592,32 @@ pub mod tls13 {
         whole(bytes, foreign::tls13_server_hello_validate_prefix)
     }
 
-    /// `ServerHello` (RFC 8446, section 4.1.3): returns the bytes of the one that `bytes` begin with, and the rest.
+    /// `ServerHello` (RFC 8446, section 4.1.3): returns the bytes of the one that `bytes` begin
+    /// with, and the rest.
     pub fn validate_server_hello_prefix(bytes: &[u8]) -> Result<(&[u8], &[u8]), Rejected> {
         split(bytes, foreign::tls13_server_hello_validate_prefix)
     }
 
-    /// `EncryptedExtensions` (RFC 8446, section 4.3.1): whether `bytes` are one, with nothing after it.
+    /// `EncryptedExtensions` (RFC 8446, section 4.3.1): whether `bytes` are one, with nothing after
+    /// it.
     pub fn validate_encrypted_extensions(bytes: &[u8]) -> Result<(), Rejected> {
         whole(bytes, foreign::tls13_encrypted_extensions_validate_prefix)
     }
 
-    /// `EncryptedExtensions` (RFC 8446, section 4.3.1): returns the bytes of the one that `bytes` begin with, and the rest.
+    /// `EncryptedExtensions` (RFC 8446, section 4.3.1): returns the bytes of the one that `bytes`
+    /// begin with, and the rest.
     pub fn validate_encrypted_extensions_prefix(bytes: &[u8]) -> Result<(&[u8], &[u8]), Rejected> {
         split(bytes, foreign::tls13_encrypted_extensions_validate_prefix)
     }
 
-    /// `CertificateRequest` (RFC 8446, section 4.3.2): whether `bytes` are one, with nothing after it.
+    /// `CertificateRequest` (RFC 8446, section 4.3.2): whether `bytes` are one, with nothing after
+    /// it.
     pub fn validate_certificate_request(bytes: &[u8]) -> Result<(), Rejected> {
         whole(bytes, foreign::tls13_certificate_request_validate_prefix)
     }
 
-    /// `CertificateRequest` (RFC 8446, section 4.3.2): returns the bytes of the one that `bytes` begin with, and the rest.
+    /// `CertificateRequest` (RFC 8446, section 4.3.2): returns the bytes of the one that `bytes`
+    /// begin with, and the rest.
     pub fn validate_certificate_request_prefix(bytes: &[u8]) -> Result<(&[u8], &[u8]), Rejected> {
         split(bytes, foreign::tls13_certificate_request_validate_prefix)
     }
@@ -595,27 +627,32 @@ pub mod tls13 {
         whole(bytes, foreign::tls13_certificate_validate_prefix)
     }
 
-    /// `Certificate` (RFC 8446, section 4.4.2): returns the bytes of the one that `bytes` begin with, and the rest.
+    /// `Certificate` (RFC 8446, section 4.4.2): returns the bytes of the one that `bytes` begin
+    /// with, and the rest.
     pub fn validate_certificate_prefix(bytes: &[u8]) -> Result<(&[u8], &[u8]), Rejected> {
         split(bytes, foreign::tls13_certificate_validate_prefix)
     }
 
-    /// `CertificateVerify` (RFC 8446, section 4.4.3): whether `bytes` are one, with nothing after it.
+    /// `CertificateVerify` (RFC 8446, section 4.4.3): whether `bytes` are one, with nothing after
+    /// it.
     pub fn validate_certificate_verify(bytes: &[u8]) -> Result<(), Rejected> {
         whole(bytes, foreign::tls13_certificate_verify_validate_prefix)
     }
 
-    /// `CertificateVerify` (RFC 8446, section 4.4.3): returns the bytes of the one that `bytes` begin with, and the rest.
+    /// `CertificateVerify` (RFC 8446, section 4.4.3): returns the bytes of the one that `bytes`
+    /// begin with, and the rest.
     pub fn validate_certificate_verify_prefix(bytes: &[u8]) -> Result<(&[u8], &[u8]), Rejected> {
         split(bytes, foreign::tls13_certificate_verify_validate_prefix)
     }
 
-    /// `NewSessionTicket` (RFC 8446, section 4.6.1): whether `bytes` are one, with nothing after it.
+    /// `NewSessionTicket` (RFC 8446, section 4.6.1): whether `bytes` are one, with nothing after
+    /// it.
     pub fn validate_new_session_ticket(bytes: &[u8]) -> Result<(), Rejected> {
         whole(bytes, foreign::tls13_new_session_ticket_validate_prefix)
     }
 
-    /// `NewSessionTicket` (RFC 8446, section 4.6.1): returns the bytes of the one that `bytes` begin with, and the rest.
+    /// `NewSessionTicket` (RFC 8446, section 4.6.1): returns the bytes of the one that `bytes`
+    /// begin with, and the rest.
     pub fn validate_new_session_ticket_prefix(bytes: &[u8]) -> Result<(&[u8], &[u8]), Rejected> {
         split(bytes, foreign::tls13_new_session_ticket_validate_prefix)
     }
@@ -625,7 +662,8 @@ pub mod tls13 {
         whole(bytes, foreign::tls13_key_update_validate_prefix)
     }
 
-    /// `KeyUpdate` (RFC 8446, section 4.6.3): returns the bytes of the one that `bytes` begin with, and the rest.
+    /// `KeyUpdate` (RFC 8446, section 4.6.3): returns the bytes of the one that `bytes` begin with,
+    /// and the rest.
     pub fn validate_key_update_prefix(bytes: &[u8]) -> Result<(&[u8], &[u8]), Rejected> {
         split(bytes, foreign::tls13_key_update_validate_prefix)
     }
@@ -635,14 +673,17 @@ pub mod tls13 {
     pub struct HandshakeFields<'a> {
         /// `HandshakeType msg_type;`
         pub msg_type: &'a [u8],
-        /// What its case has, with its length: a `ClientHello`, a `ServerHello`, ..; the length has three bytes
+        /// What its case has, with its length: a `ClientHello`, a `ServerHello`, ..; the length has
+        /// three bytes
         pub body: &'a [u8],
     }
 
-    /// `Handshake` (RFC 8446, section 4): returns the fields of the one that `bytes` begin with, and the rest.
+    /// `Handshake` (RFC 8446, section 4): returns the fields of the one that `bytes` begin with,
+    /// and the rest.
     pub fn locate_handshake(bytes: &[u8]) -> Result<(HandshakeFields<'_>, &[u8]), Rejected> {
         let mut found = foreign::HandshakeFields::default();
-        // SAFETY: the pointer and the length are of one slice, nothing changes it during the call, and the call keeps no pointer.
+        // SAFETY: the pointer and the length are of one slice, nothing changes it during the call,
+        // and the call keeps no pointer.
         let outcome = unsafe { foreign::tls13_handshake_locate(bytes.as_ptr(), bytes.len(), &mut found) };
         let (_, rest) = split_as(bytes, outcome)?;
         let fields = HandshakeFields {
@@ -652,7 +693,8 @@ pub mod tls13 {
         Ok((fields, rest))
     }
 
-    /// Where the fields of a `ClientHello` are (RFC 8446, section 4.1.2). A span of `opaque` has the bytes without their length.
+    /// Where the fields of a `ClientHello` are (RFC 8446, section 4.1.2). A span of `opaque` has
+    /// the bytes without their length.
     #[derive(Clone, Copy, PartialEq, Eq, Debug)]
     pub struct ClientHelloFields<'a> {
         /// `ProtocolVersion legacy_version = 0x0303;`
@@ -669,10 +711,12 @@ pub mod tls13 {
         pub extensions: &'a [u8],
     }
 
-    /// `ClientHello` (RFC 8446, section 4.1.2): returns the fields of the one that `bytes` begin with, and the rest.
+    /// `ClientHello` (RFC 8446, section 4.1.2): returns the fields of the one that `bytes` begin
+    /// with, and the rest.
     pub fn locate_client_hello(bytes: &[u8]) -> Result<(ClientHelloFields<'_>, &[u8]), Rejected> {
         let mut found = foreign::ClientHelloFields::default();
-        // SAFETY: the pointer and the length are of one slice, nothing changes it during the call, and the call keeps no pointer.
+        // SAFETY: the pointer and the length are of one slice, nothing changes it during the call,
+        // and the call keeps no pointer.
         let outcome = unsafe { foreign::tls13_client_hello_locate(bytes.as_ptr(), bytes.len(), &mut found) };
         let (_, rest) = split_as(bytes, outcome)?;
         let fields = ClientHelloFields {
@@ -686,7 +730,8 @@ pub mod tls13 {
         Ok((fields, rest))
     }
 
-    /// Where the fields of a `ServerHello` are (RFC 8446, section 4.1.3). A span of `opaque` has the bytes without their length.
+    /// Where the fields of a `ServerHello` are (RFC 8446, section 4.1.3). A span of `opaque` has
+    /// the bytes without their length.
     #[derive(Clone, Copy, PartialEq, Eq, Debug)]
     pub struct ServerHelloFields<'a> {
         /// `ProtocolVersion legacy_version = 0x0303;`
@@ -703,10 +748,12 @@ pub mod tls13 {
         pub extensions: &'a [u8],
     }
 
-    /// `ServerHello` (RFC 8446, section 4.1.3): returns the fields of the one that `bytes` begin with, and the rest.
+    /// `ServerHello` (RFC 8446, section 4.1.3): returns the fields of the one that `bytes` begin
+    /// with, and the rest.
     pub fn locate_server_hello(bytes: &[u8]) -> Result<(ServerHelloFields<'_>, &[u8]), Rejected> {
         let mut found = foreign::ServerHelloFields::default();
-        // SAFETY: the pointer and the length are of one slice, nothing changes it during the call, and the call keeps no pointer.
+        // SAFETY: the pointer and the length are of one slice, nothing changes it during the call,
+        // and the call keeps no pointer.
         let outcome = unsafe { foreign::tls13_server_hello_locate(bytes.as_ptr(), bytes.len(), &mut found) };
         let (_, rest) = split_as(bytes, outcome)?;
         let fields = ServerHelloFields {
@@ -727,10 +774,12 @@ pub mod tls13 {
         pub extensions: &'a [u8],
     }
 
-    /// `EncryptedExtensions` (RFC 8446, section 4.3.1): returns the fields of the one that `bytes` begin with, and the rest.
+    /// `EncryptedExtensions` (RFC 8446, section 4.3.1): returns the fields of the one that `bytes`
+    /// begin with, and the rest.
     pub fn locate_encrypted_extensions(bytes: &[u8]) -> Result<(EncryptedExtensionsFields<'_>, &[u8]), Rejected> {
         let mut found = foreign::EncryptedExtensionsFields::default();
-        // SAFETY: the pointer and the length are of one slice, nothing changes it during the call, and the call keeps no pointer.
+        // SAFETY: the pointer and the length are of one slice, nothing changes it during the call,
+        // and the call keeps no pointer.
         let outcome = unsafe { foreign::tls13_encrypted_extensions_locate(bytes.as_ptr(), bytes.len(), &mut found) };
         let (_, rest) = split_as(bytes, outcome)?;
         let fields = EncryptedExtensionsFields {
@@ -739,7 +788,8 @@ pub mod tls13 {
         Ok((fields, rest))
     }
 
-    /// Where the fields of a `CertificateRequest` are (RFC 8446, section 4.3.2). A span of `opaque` has the bytes without their length.
+    /// Where the fields of a `CertificateRequest` are (RFC 8446, section 4.3.2). A span of `opaque`
+    /// has the bytes without their length.
     #[derive(Clone, Copy, PartialEq, Eq, Debug)]
     pub struct CertificateRequestFields<'a> {
         /// `opaque certificate_request_context<0..2^8-1>;`
@@ -748,10 +798,12 @@ pub mod tls13 {
         pub extensions: &'a [u8],
     }
 
-    /// `CertificateRequest` (RFC 8446, section 4.3.2): returns the fields of the one that `bytes` begin with, and the rest.
+    /// `CertificateRequest` (RFC 8446, section 4.3.2): returns the fields of the one that `bytes`
+    /// begin with, and the rest.
     pub fn locate_certificate_request(bytes: &[u8]) -> Result<(CertificateRequestFields<'_>, &[u8]), Rejected> {
         let mut found = foreign::CertificateRequestFields::default();
-        // SAFETY: the pointer and the length are of one slice, nothing changes it during the call, and the call keeps no pointer.
+        // SAFETY: the pointer and the length are of one slice, nothing changes it during the call,
+        // and the call keeps no pointer.
         let outcome = unsafe { foreign::tls13_certificate_request_locate(bytes.as_ptr(), bytes.len(), &mut found) };
         let (_, rest) = split_as(bytes, outcome)?;
         let fields = CertificateRequestFields {
@@ -761,7 +813,8 @@ pub mod tls13 {
         Ok((fields, rest))
     }
 
-    /// Where the fields of a `Certificate` are (RFC 8446, section 4.4.2). A span of `opaque` has the bytes without their length.
+    /// Where the fields of a `Certificate` are (RFC 8446, section 4.4.2). A span of `opaque` has
+    /// the bytes without their length.
     #[derive(Clone, Copy, PartialEq, Eq, Debug)]
     pub struct CertificateFields<'a> {
         /// `opaque certificate_request_context<0..2^8-1>;`
@@ -770,10 +823,12 @@ pub mod tls13 {
         pub certificate_list: &'a [u8],
     }
 
-    /// `Certificate` (RFC 8446, section 4.4.2): returns the fields of the one that `bytes` begin with, and the rest.
+    /// `Certificate` (RFC 8446, section 4.4.2): returns the fields of the one that `bytes` begin
+    /// with, and the rest.
     pub fn locate_certificate(bytes: &[u8]) -> Result<(CertificateFields<'_>, &[u8]), Rejected> {
         let mut found = foreign::CertificateFields::default();
-        // SAFETY: the pointer and the length are of one slice, nothing changes it during the call, and the call keeps no pointer.
+        // SAFETY: the pointer and the length are of one slice, nothing changes it during the call,
+        // and the call keeps no pointer.
         let outcome = unsafe { foreign::tls13_certificate_locate(bytes.as_ptr(), bytes.len(), &mut found) };
         let (_, rest) = split_as(bytes, outcome)?;
         let fields = CertificateFields {
@@ -783,7 +838,8 @@ pub mod tls13 {
         Ok((fields, rest))
     }
 
-    /// Where the fields of a `CertificateVerify` are (RFC 8446, section 4.4.3). A span of `opaque` has the bytes without their length.
+    /// Where the fields of a `CertificateVerify` are (RFC 8446, section 4.4.3). A span of `opaque`
+    /// has the bytes without their length.
     #[derive(Clone, Copy, PartialEq, Eq, Debug)]
     pub struct CertificateVerifyFields<'a> {
         /// `SignatureScheme algorithm;`
@@ -792,10 +848,12 @@ pub mod tls13 {
         pub signature: &'a [u8],
     }
 
-    /// `CertificateVerify` (RFC 8446, section 4.4.3): returns the fields of the one that `bytes` begin with, and the rest.
+    /// `CertificateVerify` (RFC 8446, section 4.4.3): returns the fields of the one that `bytes`
+    /// begin with, and the rest.
     pub fn locate_certificate_verify(bytes: &[u8]) -> Result<(CertificateVerifyFields<'_>, &[u8]), Rejected> {
         let mut found = foreign::CertificateVerifyFields::default();
-        // SAFETY: the pointer and the length are of one slice, nothing changes it during the call, and the call keeps no pointer.
+        // SAFETY: the pointer and the length are of one slice, nothing changes it during the call,
+        // and the call keeps no pointer.
         let outcome = unsafe { foreign::tls13_certificate_verify_locate(bytes.as_ptr(), bytes.len(), &mut found) };
         let (_, rest) = split_as(bytes, outcome)?;
         let fields = CertificateVerifyFields {
@@ -805,7 +863,8 @@ pub mod tls13 {
         Ok((fields, rest))
     }
 
-    /// Where the fields of a `NewSessionTicket` are (RFC 8446, section 4.6.1). A span of `opaque` has the bytes without their length.
+    /// Where the fields of a `NewSessionTicket` are (RFC 8446, section 4.6.1). A span of `opaque`
+    /// has the bytes without their length.
     #[derive(Clone, Copy, PartialEq, Eq, Debug)]
     pub struct NewSessionTicketFields<'a> {
         /// `uint32 ticket_lifetime;`
@@ -820,10 +879,12 @@ pub mod tls13 {
         pub extensions: &'a [u8],
     }
 
-    /// `NewSessionTicket` (RFC 8446, section 4.6.1): returns the fields of the one that `bytes` begin with, and the rest.
+    /// `NewSessionTicket` (RFC 8446, section 4.6.1): returns the fields of the one that `bytes`
+    /// begin with, and the rest.
     pub fn locate_new_session_ticket(bytes: &[u8]) -> Result<(NewSessionTicketFields<'_>, &[u8]), Rejected> {
         let mut found = foreign::NewSessionTicketFields::default();
-        // SAFETY: the pointer and the length are of one slice, nothing changes it during the call, and the call keeps no pointer.
+        // SAFETY: the pointer and the length are of one slice, nothing changes it during the call,
+        // and the call keeps no pointer.
         let outcome = unsafe { foreign::tls13_new_session_ticket_locate(bytes.as_ptr(), bytes.len(), &mut found) };
         let (_, rest) = split_as(bytes, outcome)?;
         let fields = NewSessionTicketFields {
@@ -843,10 +904,12 @@ pub mod tls13 {
         pub request_update: &'a [u8],
     }
 
-    /// `KeyUpdate` (RFC 8446, section 4.6.3): returns the fields of the one that `bytes` begin with, and the rest.
+    /// `KeyUpdate` (RFC 8446, section 4.6.3): returns the fields of the one that `bytes` begin
+    /// with, and the rest.
     pub fn locate_key_update(bytes: &[u8]) -> Result<(KeyUpdateFields<'_>, &[u8]), Rejected> {
         let mut found = foreign::KeyUpdateFields::default();
-        // SAFETY: the pointer and the length are of one slice, nothing changes it during the call, and the call keeps no pointer.
+        // SAFETY: the pointer and the length are of one slice, nothing changes it during the call,
+        // and the call keeps no pointer.
         let outcome = unsafe { foreign::tls13_key_update_locate(bytes.as_ptr(), bytes.len(), &mut found) };
         let (_, rest) = split_as(bytes, outcome)?;
         let fields = KeyUpdateFields {
@@ -855,7 +918,8 @@ pub mod tls13 {
         Ok((fields, rest))
     }
 
-    /// Where the fields of a `TLSPlaintext` are (RFC 8446, section 5.1). A span of `opaque` has the bytes without their length.
+    /// Where the fields of a `TLSPlaintext` are (RFC 8446, section 5.1). A span of `opaque` has the
+    /// bytes without their length.
     #[derive(Clone, Copy, PartialEq, Eq, Debug)]
     pub struct TLSPlaintextFields<'a> {
         /// `ContentType type;`
@@ -866,10 +930,12 @@ pub mod tls13 {
         pub fragment: &'a [u8],
     }
 
-    /// `TLSPlaintext` (RFC 8446, section 5.1): returns the fields of the one that `bytes` begin with, and the rest.
+    /// `TLSPlaintext` (RFC 8446, section 5.1): returns the fields of the one that `bytes` begin
+    /// with, and the rest.
     pub fn locate_tls_plaintext(bytes: &[u8]) -> Result<(TLSPlaintextFields<'_>, &[u8]), Rejected> {
         let mut found = foreign::TLSPlaintextFields::default();
-        // SAFETY: the pointer and the length are of one slice, nothing changes it during the call, and the call keeps no pointer.
+        // SAFETY: the pointer and the length are of one slice, nothing changes it during the call,
+        // and the call keeps no pointer.
         let outcome = unsafe { foreign::tls13_tls_plaintext_locate(bytes.as_ptr(), bytes.len(), &mut found) };
         let (_, rest) = split_as(bytes, outcome)?;
         let fields = TLSPlaintextFields {
@@ -880,7 +946,8 @@ pub mod tls13 {
         Ok((fields, rest))
     }
 
-    /// Where the fields of a `TLSCiphertext` are (RFC 8446, section 5.2). A span of `opaque` has the bytes without their length.
+    /// Where the fields of a `TLSCiphertext` are (RFC 8446, section 5.2). A span of `opaque` has
+    /// the bytes without their length.
     #[derive(Clone, Copy, PartialEq, Eq, Debug)]
     pub struct TLSCiphertextFields<'a> {
         /// `ContentType opaque_type = application_data;`
@@ -891,10 +958,12 @@ pub mod tls13 {
         pub encrypted_record: &'a [u8],
     }
 
-    /// `TLSCiphertext` (RFC 8446, section 5.2): returns the fields of the one that `bytes` begin with, and the rest.
+    /// `TLSCiphertext` (RFC 8446, section 5.2): returns the fields of the one that `bytes` begin
+    /// with, and the rest.
     pub fn locate_tls_ciphertext(bytes: &[u8]) -> Result<(TLSCiphertextFields<'_>, &[u8]), Rejected> {
         let mut found = foreign::TLSCiphertextFields::default();
-        // SAFETY: the pointer and the length are of one slice, nothing changes it during the call, and the call keeps no pointer.
+        // SAFETY: the pointer and the length are of one slice, nothing changes it during the call,
+        // and the call keeps no pointer.
         let outcome = unsafe { foreign::tls13_tls_ciphertext_locate(bytes.as_ptr(), bytes.len(), &mut found) };
         let (_, rest) = split_as(bytes, outcome)?;
         let fields = TLSCiphertextFields {
@@ -914,10 +983,12 @@ pub mod tls13 {
         pub description: &'a [u8],
     }
 
-    /// `Alert` (RFC 8446, section 6): returns the fields of the one that `bytes` begin with, and the rest.
+    /// `Alert` (RFC 8446, section 6): returns the fields of the one that `bytes` begin with, and
+    /// the rest.
     pub fn locate_alert(bytes: &[u8]) -> Result<(AlertFields<'_>, &[u8]), Rejected> {
         let mut found = foreign::AlertFields::default();
-        // SAFETY: the pointer and the length are of one slice, nothing changes it during the call, and the call keeps no pointer.
+        // SAFETY: the pointer and the length are of one slice, nothing changes it during the call,
+        // and the call keeps no pointer.
         let outcome = unsafe { foreign::tls13_alert_locate(bytes.as_ptr(), bytes.len(), &mut found) };
         let (_, rest) = split_as(bytes, outcome)?;
         let fields = AlertFields {
@@ -927,23 +998,28 @@ pub mod tls13 {
         Ok((fields, rest))
     }
 
-    /// `Extension` (RFC 8446, section 4.2): an iterator over a list's elements. `content` is the list without its length; an error's `at` counts from its first byte.
+    /// `Extension` (RFC 8446, section 4.2): an iterator over a list's elements. `content` is the
+    /// list without its length; an error's `at` counts from its first byte.
     pub fn extension_elements(content: &[u8]) -> Elements<'_> {
         Elements::of(content, foreign::tls13_extension_next)
     }
 
-    /// `KeyShareEntry` (RFC 8446, section 4.2.8): an iterator over a list's elements. `content` is the list without its length; an error's `at` counts from its first byte.
+    /// `KeyShareEntry` (RFC 8446, section 4.2.8): an iterator over a list's elements. `content` is
+    /// the list without its length; an error's `at` counts from its first byte.
     pub fn key_share_entry_elements(content: &[u8]) -> Elements<'_> {
         Elements::of(content, foreign::tls13_key_share_entry_next)
     }
 
-    /// `CertificateEntry` of a `Certificate` (RFC 8446, section 4.4.2): an iterator over a list's elements. `content` is the list without its length; an error's `at` counts from its first byte.
+    /// `CertificateEntry` of a `Certificate` (RFC 8446, section 4.4.2): an iterator over a list's
+    /// elements. `content` is the list without its length; an error's `at` counts from its first
+    /// byte.
     pub fn certificate_entry_elements(content: &[u8]) -> Elements<'_> {
         Elements::of(content, foreign::tls13_certificate_entry_next)
     }
 }
 
-/// Checks whether bytes begin with a message of TLS 1.3: its decoder makes the value and drops it. `OutOfMemory`: memory was refused, and nothing is said about the bytes. No position is reported.
+/// Checks whether bytes begin with a message of TLS 1.3: its decoder makes the value and drops it.
+/// `OutOfMemory`: memory was refused, and nothing is said about the bytes. No position is reported.
 #[cfg(feature = "check")]
 pub mod tls13_check {
     use crate::{Error, split, whole};
@@ -968,122 +1044,146 @@ pub mod tls13_check {
         }
     }
 
-    /// `TLSPlaintext` (RFC 8446, section 5.1): whether `bytes` are one, with nothing after it, by the decoder.
+    /// `TLSPlaintext` (RFC 8446, section 5.1): whether `bytes` are one, with nothing after it, by
+    /// the decoder.
     pub fn decode_check_tls_plaintext(bytes: &[u8]) -> Result<(), Error> {
         whole(bytes, foreign::tls13_tls_plaintext_decode_check).map_err(|it| it.error)
     }
 
-    /// `TLSPlaintext` (RFC 8446, section 5.1): returns the bytes of the one that `bytes` begin with, and the rest, by the decoder.
+    /// `TLSPlaintext` (RFC 8446, section 5.1): returns the bytes of the one that `bytes` begin
+    /// with, and the rest, by the decoder.
     pub fn decode_check_tls_plaintext_prefix(bytes: &[u8]) -> Result<(&[u8], &[u8]), Error> {
         split(bytes, foreign::tls13_tls_plaintext_decode_check).map_err(|it| it.error)
     }
 
-    /// `TLSCiphertext` (RFC 8446, section 5.2): whether `bytes` are one, with nothing after it, by the decoder.
+    /// `TLSCiphertext` (RFC 8446, section 5.2): whether `bytes` are one, with nothing after it, by
+    /// the decoder.
     pub fn decode_check_tls_ciphertext(bytes: &[u8]) -> Result<(), Error> {
         whole(bytes, foreign::tls13_tls_ciphertext_decode_check).map_err(|it| it.error)
     }
 
-    /// `TLSCiphertext` (RFC 8446, section 5.2): returns the bytes of the one that `bytes` begin with, and the rest, by the decoder.
+    /// `TLSCiphertext` (RFC 8446, section 5.2): returns the bytes of the one that `bytes` begin
+    /// with, and the rest, by the decoder.
     pub fn decode_check_tls_ciphertext_prefix(bytes: &[u8]) -> Result<(&[u8], &[u8]), Error> {
         split(bytes, foreign::tls13_tls_ciphertext_decode_check).map_err(|it| it.error)
     }
 
-    /// `Alert` (RFC 8446, section 6): whether `bytes` are one, with nothing after it, by the decoder.
+    /// `Alert` (RFC 8446, section 6): whether `bytes` are one, with nothing after it, by the
+    /// decoder.
     pub fn decode_check_alert(bytes: &[u8]) -> Result<(), Error> {
         whole(bytes, foreign::tls13_alert_decode_check).map_err(|it| it.error)
     }
 
-    /// `Alert` (RFC 8446, section 6): returns the bytes of the one that `bytes` begin with, and the rest, by the decoder.
+    /// `Alert` (RFC 8446, section 6): returns the bytes of the one that `bytes` begin with, and the
+    /// rest, by the decoder.
     pub fn decode_check_alert_prefix(bytes: &[u8]) -> Result<(&[u8], &[u8]), Error> {
         split(bytes, foreign::tls13_alert_decode_check).map_err(|it| it.error)
     }
 
-    /// `Handshake` (RFC 8446, section 4): whether `bytes` are one, with nothing after it, by the decoder.
+    /// `Handshake` (RFC 8446, section 4): whether `bytes` are one, with nothing after it, by the
+    /// decoder.
     pub fn decode_check_handshake(bytes: &[u8]) -> Result<(), Error> {
         whole(bytes, foreign::tls13_handshake_decode_check).map_err(|it| it.error)
     }
 
-    /// `Handshake` (RFC 8446, section 4): returns the bytes of the one that `bytes` begin with, and the rest, by the decoder.
+    /// `Handshake` (RFC 8446, section 4): returns the bytes of the one that `bytes` begin with, and
+    /// the rest, by the decoder.
     pub fn decode_check_handshake_prefix(bytes: &[u8]) -> Result<(&[u8], &[u8]), Error> {
         split(bytes, foreign::tls13_handshake_decode_check).map_err(|it| it.error)
     }
 
-    /// `ClientHello` (RFC 8446, section 4.1.2): whether `bytes` are one, with nothing after it, by the decoder.
+    /// `ClientHello` (RFC 8446, section 4.1.2): whether `bytes` are one, with nothing after it, by
+    /// the decoder.
     pub fn decode_check_client_hello(bytes: &[u8]) -> Result<(), Error> {
         whole(bytes, foreign::tls13_client_hello_decode_check).map_err(|it| it.error)
     }
 
-    /// `ClientHello` (RFC 8446, section 4.1.2): returns the bytes of the one that `bytes` begin with, and the rest, by the decoder.
+    /// `ClientHello` (RFC 8446, section 4.1.2): returns the bytes of the one that `bytes` begin
+    /// with, and the rest, by the decoder.
     pub fn decode_check_client_hello_prefix(bytes: &[u8]) -> Result<(&[u8], &[u8]), Error> {
         split(bytes, foreign::tls13_client_hello_decode_check).map_err(|it| it.error)
     }
 
-    /// `ServerHello` (RFC 8446, section 4.1.3): whether `bytes` are one, with nothing after it, by the decoder.
+    /// `ServerHello` (RFC 8446, section 4.1.3): whether `bytes` are one, with nothing after it, by
+    /// the decoder.
     pub fn decode_check_server_hello(bytes: &[u8]) -> Result<(), Error> {
         whole(bytes, foreign::tls13_server_hello_decode_check).map_err(|it| it.error)
     }
 
-    /// `ServerHello` (RFC 8446, section 4.1.3): returns the bytes of the one that `bytes` begin with, and the rest, by the decoder.
+    /// `ServerHello` (RFC 8446, section 4.1.3): returns the bytes of the one that `bytes` begin
+    /// with, and the rest, by the decoder.
     pub fn decode_check_server_hello_prefix(bytes: &[u8]) -> Result<(&[u8], &[u8]), Error> {
         split(bytes, foreign::tls13_server_hello_decode_check).map_err(|it| it.error)
     }
 
-    /// `EncryptedExtensions` (RFC 8446, section 4.3.1): whether `bytes` are one, with nothing after it, by the decoder.
+    /// `EncryptedExtensions` (RFC 8446, section 4.3.1): whether `bytes` are one, with nothing after
+    /// it, by the decoder.
     pub fn decode_check_encrypted_extensions(bytes: &[u8]) -> Result<(), Error> {
         whole(bytes, foreign::tls13_encrypted_extensions_decode_check).map_err(|it| it.error)
     }
 
-    /// `EncryptedExtensions` (RFC 8446, section 4.3.1): returns the bytes of the one that `bytes` begin with, and the rest, by the decoder.
+    /// `EncryptedExtensions` (RFC 8446, section 4.3.1): returns the bytes of the one that `bytes`
+    /// begin with, and the rest, by the decoder.
     pub fn decode_check_encrypted_extensions_prefix(bytes: &[u8]) -> Result<(&[u8], &[u8]), Error> {
         split(bytes, foreign::tls13_encrypted_extensions_decode_check).map_err(|it| it.error)
     }
 
-    /// `CertificateRequest` (RFC 8446, section 4.3.2): whether `bytes` are one, with nothing after it, by the decoder.
+    /// `CertificateRequest` (RFC 8446, section 4.3.2): whether `bytes` are one, with nothing after
+    /// it, by the decoder.
     pub fn decode_check_certificate_request(bytes: &[u8]) -> Result<(), Error> {
         whole(bytes, foreign::tls13_certificate_request_decode_check).map_err(|it| it.error)
     }
 
-    /// `CertificateRequest` (RFC 8446, section 4.3.2): returns the bytes of the one that `bytes` begin with, and the rest, by the decoder.
+    /// `CertificateRequest` (RFC 8446, section 4.3.2): returns the bytes of the one that `bytes`
+    /// begin with, and the rest, by the decoder.
     pub fn decode_check_certificate_request_prefix(bytes: &[u8]) -> Result<(&[u8], &[u8]), Error> {
         split(bytes, foreign::tls13_certificate_request_decode_check).map_err(|it| it.error)
     }
 
-    /// `Certificate` (RFC 8446, section 4.4.2): whether `bytes` are one, with nothing after it, by the decoder.
+    /// `Certificate` (RFC 8446, section 4.4.2): whether `bytes` are one, with nothing after it, by
+    /// the decoder.
     pub fn decode_check_certificate(bytes: &[u8]) -> Result<(), Error> {
         whole(bytes, foreign::tls13_certificate_decode_check).map_err(|it| it.error)
     }
 
-    /// `Certificate` (RFC 8446, section 4.4.2): returns the bytes of the one that `bytes` begin with, and the rest, by the decoder.
+    /// `Certificate` (RFC 8446, section 4.4.2): returns the bytes of the one that `bytes` begin
+    /// with, and the rest, by the decoder.
     pub fn decode_check_certificate_prefix(bytes: &[u8]) -> Result<(&[u8], &[u8]), Error> {
         split(bytes, foreign::tls13_certificate_decode_check).map_err(|it| it.error)
     }
 
-    /// `CertificateVerify` (RFC 8446, section 4.4.3): whether `bytes` are one, with nothing after it, by the decoder.
+    /// `CertificateVerify` (RFC 8446, section 4.4.3): whether `bytes` are one, with nothing after
+    /// it, by the decoder.
     pub fn decode_check_certificate_verify(bytes: &[u8]) -> Result<(), Error> {
         whole(bytes, foreign::tls13_certificate_verify_decode_check).map_err(|it| it.error)
     }
 
-    /// `CertificateVerify` (RFC 8446, section 4.4.3): returns the bytes of the one that `bytes` begin with, and the rest, by the decoder.
+    /// `CertificateVerify` (RFC 8446, section 4.4.3): returns the bytes of the one that `bytes`
+    /// begin with, and the rest, by the decoder.
     pub fn decode_check_certificate_verify_prefix(bytes: &[u8]) -> Result<(&[u8], &[u8]), Error> {
         split(bytes, foreign::tls13_certificate_verify_decode_check).map_err(|it| it.error)
     }
 
-    /// `NewSessionTicket` (RFC 8446, section 4.6.1): whether `bytes` are one, with nothing after it, by the decoder.
+    /// `NewSessionTicket` (RFC 8446, section 4.6.1): whether `bytes` are one, with nothing after
+    /// it, by the decoder.
     pub fn decode_check_new_session_ticket(bytes: &[u8]) -> Result<(), Error> {
         whole(bytes, foreign::tls13_new_session_ticket_decode_check).map_err(|it| it.error)
     }
 
-    /// `NewSessionTicket` (RFC 8446, section 4.6.1): returns the bytes of the one that `bytes` begin with, and the rest, by the decoder.
+    /// `NewSessionTicket` (RFC 8446, section 4.6.1): returns the bytes of the one that `bytes`
+    /// begin with, and the rest, by the decoder.
     pub fn decode_check_new_session_ticket_prefix(bytes: &[u8]) -> Result<(&[u8], &[u8]), Error> {
         split(bytes, foreign::tls13_new_session_ticket_decode_check).map_err(|it| it.error)
     }
 
-    /// `KeyUpdate` (RFC 8446, section 4.6.3): whether `bytes` are one, with nothing after it, by the decoder.
+    /// `KeyUpdate` (RFC 8446, section 4.6.3): whether `bytes` are one, with nothing after it, by
+    /// the decoder.
     pub fn decode_check_key_update(bytes: &[u8]) -> Result<(), Error> {
         whole(bytes, foreign::tls13_key_update_decode_check).map_err(|it| it.error)
     }
 
-    /// `KeyUpdate` (RFC 8446, section 4.6.3): returns the bytes of the one that `bytes` begin with, and the rest, by the decoder.
+    /// `KeyUpdate` (RFC 8446, section 4.6.3): returns the bytes of the one that `bytes` begin with,
+    /// and the rest, by the decoder.
     pub fn decode_check_key_update_prefix(bytes: &[u8]) -> Result<(&[u8], &[u8]), Error> {
         split(bytes, foreign::tls13_key_update_decode_check).map_err(|it| it.error)
     }
@@ -1114,7 +1214,8 @@ pub mod mls {
             pub membership_tag: Span,
         }
 
-        /// Where the fields of a `PrivateMessage` are (RFC 9420, section 6.3). A span of `opaque` has the bytes without their length.
+        /// Where the fields of a `PrivateMessage` are (RFC 9420, section 6.3). A span of `opaque`
+        /// has the bytes without their length.
         #[repr(C)]
         #[derive(Clone, Copy, Default)]
         pub struct PrivateMessageFields {
@@ -1126,7 +1227,8 @@ pub mod mls {
             pub ciphertext: Span,
         }
 
-        /// Where the fields of a `FramedContent` are (RFC 9420, section 6). A span of `opaque` has the bytes without their length.
+        /// Where the fields of a `FramedContent` are (RFC 9420, section 6). A span of `opaque` has
+        /// the bytes without their length.
         #[repr(C)]
         #[derive(Clone, Copy, Default)]
         pub struct FramedContentFields {
@@ -1147,7 +1249,8 @@ pub mod mls {
             pub reuse_guard: Span,
         }
 
-        /// Where the fields of a `KeyPackage` are (RFC 9420, section 10). A span of `opaque` has the bytes without their length.
+        /// Where the fields of a `KeyPackage` are (RFC 9420, section 10). A span of `opaque` has
+        /// the bytes without their length.
         #[repr(C)]
         #[derive(Clone, Copy, Default)]
         pub struct KeyPackageFields {
@@ -1159,7 +1262,8 @@ pub mod mls {
             pub signature: Span,
         }
 
-        /// Where the fields of a `LeafNode` are (RFC 9420, section 7.2). A span of `opaque` has the bytes without their length.
+        /// Where the fields of a `LeafNode` are (RFC 9420, section 7.2). A span of `opaque` has the
+        /// bytes without their length.
         #[repr(C)]
         #[derive(Clone, Copy, Default)]
         pub struct LeafNodeFields {
@@ -1173,7 +1277,8 @@ pub mod mls {
             pub signature: Span,
         }
 
-        /// Where the fields of a `Welcome` are (RFC 9420, section 12.4.3.1). A span of `opaque` has the bytes without their length.
+        /// Where the fields of a `Welcome` are (RFC 9420, section 12.4.3.1). A span of `opaque` has
+        /// the bytes without their length.
         #[repr(C)]
         #[derive(Clone, Copy, Default)]
         pub struct WelcomeFields {
@@ -1182,7 +1287,8 @@ pub mod mls {
             pub encrypted_group_info: Span,
         }
 
-        /// Where the fields of a `GroupSecrets` are (RFC 9420, section 12.4.3.1). A span of `opaque` has the bytes without their length.
+        /// Where the fields of a `GroupSecrets` are (RFC 9420, section 12.4.3.1). A span of
+        /// `opaque` has the bytes without their length.
         #[repr(C)]
         #[derive(Clone, Copy, Default)]
         pub struct GroupSecretsFields {
@@ -1191,7 +1297,8 @@ pub mod mls {
             pub psks: Span,
         }
 
-        /// Where the fields of a `GroupInfo` are (RFC 9420, section 12.4.3). A span of `opaque` has the bytes without their length.
+        /// Where the fields of a `GroupInfo` are (RFC 9420, section 12.4.3). A span of `opaque` has
+        /// the bytes without their length.
         #[repr(C)]
         #[derive(Clone, Copy, Default)]
         pub struct GroupInfoFields {
@@ -1202,7 +1309,8 @@ pub mod mls {
             pub signature: Span,
         }
 
-        /// Where the fields of a `GroupContext` are (RFC 9420, section 8.1). A span of `opaque` has the bytes without their length.
+        /// Where the fields of a `GroupContext` are (RFC 9420, section 8.1). A span of `opaque` has
+        /// the bytes without their length.
         #[repr(C)]
         #[derive(Clone, Copy, Default)]
         pub struct GroupContextFields {
@@ -1264,7 +1372,15 @@ pub mod mls {
             pub fn mls_key_package_validate_prefix(bytes: *const u8, length: usize) -> Outcome;
             pub fn mls_leaf_node_validate_prefix(bytes: *const u8, length: usize) -> Outcome;
             pub fn mls_ratchet_tree_validate_prefix(bytes: *const u8, length: usize) -> Outcome;
-            pub fn mls_framed_content_tbs_encode(wire_format: u16, content: *const u8, content_length: usize, context: *const u8, context_length: usize, out: *mut u8, out_length: usize) -> Outcome;
+            pub fn mls_framed_content_tbs_encode(
+                wire_format: u16,
+                content: *const u8,
+                content_length: usize,
+                context: *const u8,
+                context_length: usize,
+                out: *mut u8,
+                out_length: usize,
+            ) -> Outcome;
             pub fn mls_message_wire_format(bytes: *const u8, length: usize, wire_format: &mut u16) -> Outcome;
         }
     }
@@ -1400,7 +1516,8 @@ pub mod mls {
         whole(bytes, foreign::mls_message_validate_prefix)
     }
 
-    /// `MLSMessage` (RFC 9420, section 6): returns the bytes of the one that `bytes` begin with, and the rest.
+    /// `MLSMessage` (RFC 9420, section 6): returns the bytes of the one that `bytes` begin with,
+    /// and the rest.
     pub fn validate_message_prefix(bytes: &[u8]) -> Result<(&[u8], &[u8]), Rejected> {
         split(bytes, foreign::mls_message_validate_prefix)
     }
@@ -1410,7 +1527,8 @@ pub mod mls {
         whole(bytes, foreign::mls_public_message_validate_prefix)
     }
 
-    /// `PublicMessage` (RFC 9420, section 6.2): returns the bytes of the one that `bytes` begin with, and the rest.
+    /// `PublicMessage` (RFC 9420, section 6.2): returns the bytes of the one that `bytes` begin
+    /// with, and the rest.
     pub fn validate_public_message_prefix(bytes: &[u8]) -> Result<(&[u8], &[u8]), Rejected> {
         split(bytes, foreign::mls_public_message_validate_prefix)
     }
@@ -1420,7 +1538,8 @@ pub mod mls {
         whole(bytes, foreign::mls_private_message_validate_prefix)
     }
 
-    /// `PrivateMessage` (RFC 9420, section 6.3): returns the bytes of the one that `bytes` begin with, and the rest.
+    /// `PrivateMessage` (RFC 9420, section 6.3): returns the bytes of the one that `bytes` begin
+    /// with, and the rest.
     pub fn validate_private_message_prefix(bytes: &[u8]) -> Result<(&[u8], &[u8]), Rejected> {
         split(bytes, foreign::mls_private_message_validate_prefix)
     }
@@ -1430,7 +1549,8 @@ pub mod mls {
         whole(bytes, foreign::mls_framed_content_validate_prefix)
     }
 
-    /// `FramedContent` (RFC 9420, section 6): returns the bytes of the one that `bytes` begin with, and the rest.
+    /// `FramedContent` (RFC 9420, section 6): returns the bytes of the one that `bytes` begin with,
+    /// and the rest.
     pub fn validate_framed_content_prefix(bytes: &[u8]) -> Result<(&[u8], &[u8]), Rejected> {
         split(bytes, foreign::mls_framed_content_validate_prefix)
     }
@@ -1440,7 +1560,8 @@ pub mod mls {
         whole(bytes, foreign::mls_sender_data_validate_prefix)
     }
 
-    /// `SenderData` (RFC 9420, section 6.3.2): returns the bytes of the one that `bytes` begin with, and the rest.
+    /// `SenderData` (RFC 9420, section 6.3.2): returns the bytes of the one that `bytes` begin
+    /// with, and the rest.
     pub fn validate_sender_data_prefix(bytes: &[u8]) -> Result<(&[u8], &[u8]), Rejected> {
         split(bytes, foreign::mls_sender_data_validate_prefix)
     }
@@ -1450,7 +1571,8 @@ pub mod mls {
         whole(bytes, foreign::mls_welcome_validate_prefix)
     }
 
-    /// `Welcome` (RFC 9420, section 12.4.3.1): returns the bytes of the one that `bytes` begin with, and the rest.
+    /// `Welcome` (RFC 9420, section 12.4.3.1): returns the bytes of the one that `bytes` begin
+    /// with, and the rest.
     pub fn validate_welcome_prefix(bytes: &[u8]) -> Result<(&[u8], &[u8]), Rejected> {
         split(bytes, foreign::mls_welcome_validate_prefix)
     }
@@ -1460,7 +1582,8 @@ pub mod mls {
         whole(bytes, foreign::mls_group_secrets_validate_prefix)
     }
 
-    /// `GroupSecrets` (RFC 9420, section 12.4.3.1): returns the bytes of the one that `bytes` begin with, and the rest.
+    /// `GroupSecrets` (RFC 9420, section 12.4.3.1): returns the bytes of the one that `bytes` begin
+    /// with, and the rest.
     pub fn validate_group_secrets_prefix(bytes: &[u8]) -> Result<(&[u8], &[u8]), Rejected> {
         split(bytes, foreign::mls_group_secrets_validate_prefix)
     }
@@ -1470,7 +1593,8 @@ pub mod mls {
         whole(bytes, foreign::mls_group_info_validate_prefix)
     }
 
-    /// `GroupInfo` (RFC 9420, section 12.4.3): returns the bytes of the one that `bytes` begin with, and the rest.
+    /// `GroupInfo` (RFC 9420, section 12.4.3): returns the bytes of the one that `bytes` begin
+    /// with, and the rest.
     pub fn validate_group_info_prefix(bytes: &[u8]) -> Result<(&[u8], &[u8]), Rejected> {
         split(bytes, foreign::mls_group_info_validate_prefix)
     }
@@ -1480,7 +1604,8 @@ pub mod mls {
         whole(bytes, foreign::mls_group_context_validate_prefix)
     }
 
-    /// `GroupContext` (RFC 9420, section 8.1): returns the bytes of the one that `bytes` begin with, and the rest.
+    /// `GroupContext` (RFC 9420, section 8.1): returns the bytes of the one that `bytes` begin
+    /// with, and the rest.
     pub fn validate_group_context_prefix(bytes: &[u8]) -> Result<(&[u8], &[u8]), Rejected> {
         split(bytes, foreign::mls_group_context_validate_prefix)
     }
@@ -1490,7 +1615,8 @@ pub mod mls {
         whole(bytes, foreign::mls_commit_validate_prefix)
     }
 
-    /// `Commit` (RFC 9420, section 12.4): returns the bytes of the one that `bytes` begin with, and the rest.
+    /// `Commit` (RFC 9420, section 12.4): returns the bytes of the one that `bytes` begin with, and
+    /// the rest.
     pub fn validate_commit_prefix(bytes: &[u8]) -> Result<(&[u8], &[u8]), Rejected> {
         split(bytes, foreign::mls_commit_validate_prefix)
     }
@@ -1500,7 +1626,8 @@ pub mod mls {
         whole(bytes, foreign::mls_proposal_validate_prefix)
     }
 
-    /// `Proposal` (RFC 9420, section 12.1): returns the bytes of the one that `bytes` begin with, and the rest.
+    /// `Proposal` (RFC 9420, section 12.1): returns the bytes of the one that `bytes` begin with,
+    /// and the rest.
     pub fn validate_proposal_prefix(bytes: &[u8]) -> Result<(&[u8], &[u8]), Rejected> {
         split(bytes, foreign::mls_proposal_validate_prefix)
     }
@@ -1510,7 +1637,8 @@ pub mod mls {
         whole(bytes, foreign::mls_key_package_validate_prefix)
     }
 
-    /// `KeyPackage` (RFC 9420, section 10): returns the bytes of the one that `bytes` begin with, and the rest.
+    /// `KeyPackage` (RFC 9420, section 10): returns the bytes of the one that `bytes` begin with,
+    /// and the rest.
     pub fn validate_key_package_prefix(bytes: &[u8]) -> Result<(&[u8], &[u8]), Rejected> {
         split(bytes, foreign::mls_key_package_validate_prefix)
     }
@@ -1520,7 +1648,8 @@ pub mod mls {
         whole(bytes, foreign::mls_leaf_node_validate_prefix)
     }
 
-    /// `LeafNode` (RFC 9420, section 7.2): returns the bytes of the one that `bytes` begin with, and the rest.
+    /// `LeafNode` (RFC 9420, section 7.2): returns the bytes of the one that `bytes` begin with,
+    /// and the rest.
     pub fn validate_leaf_node_prefix(bytes: &[u8]) -> Result<(&[u8], &[u8]), Rejected> {
         split(bytes, foreign::mls_leaf_node_validate_prefix)
     }
@@ -1530,7 +1659,8 @@ pub mod mls {
         whole(bytes, foreign::mls_ratchet_tree_validate_prefix)
     }
 
-    /// `RatchetTree` (RFC 9420, section 12.4.3.3): returns the bytes of the one that `bytes` begin with, and the rest.
+    /// `RatchetTree` (RFC 9420, section 12.4.3.3): returns the bytes of the one that `bytes` begin
+    /// with, and the rest.
     pub fn validate_ratchet_tree_prefix(bytes: &[u8]) -> Result<(&[u8], &[u8]), Rejected> {
         split(bytes, foreign::mls_ratchet_tree_validate_prefix)
     }
@@ -1546,10 +1676,12 @@ pub mod mls {
         pub body: &'a [u8],
     }
 
-    /// `MLSMessage` (RFC 9420, section 6): returns the fields of the one that `bytes` begin with, and the rest.
+    /// `MLSMessage` (RFC 9420, section 6): returns the fields of the one that `bytes` begin with,
+    /// and the rest.
     pub fn locate_message(bytes: &[u8]) -> Result<(MLSMessageFields<'_>, &[u8]), Rejected> {
         let mut found = foreign::MLSMessageFields::default();
-        // SAFETY: the pointer and the length are of one slice, nothing changes it during the call, and the call keeps no pointer.
+        // SAFETY: the pointer and the length are of one slice, nothing changes it during the call,
+        // and the call keeps no pointer.
         let outcome = unsafe { foreign::mls_message_locate(bytes.as_ptr(), bytes.len(), &mut found) };
         let (_, rest) = split_as(bytes, outcome)?;
         let fields = MLSMessageFields {
@@ -1565,16 +1697,19 @@ pub mod mls {
     pub struct PublicMessageFields<'a> {
         /// `FramedContent content;`
         pub content: &'a [u8],
-        /// `FramedContentAuthData auth;`: `opaque signature<V>` with its length, then of a commit its `MAC confirmation_tag` with its length
+        /// `FramedContentAuthData auth;`: `opaque signature<V>` with its length, then of a commit
+        /// its `MAC confirmation_tag` with its length
         pub auth: &'a [u8],
         /// `MAC membership_tag;` with its length; no bytes if the sender is no member
         pub membership_tag: &'a [u8],
     }
 
-    /// `PublicMessage` (RFC 9420, section 6.2): returns the fields of the one that `bytes` begin with, and the rest.
+    /// `PublicMessage` (RFC 9420, section 6.2): returns the fields of the one that `bytes` begin
+    /// with, and the rest.
     pub fn locate_public_message(bytes: &[u8]) -> Result<(PublicMessageFields<'_>, &[u8]), Rejected> {
         let mut found = foreign::PublicMessageFields::default();
-        // SAFETY: the pointer and the length are of one slice, nothing changes it during the call, and the call keeps no pointer.
+        // SAFETY: the pointer and the length are of one slice, nothing changes it during the call,
+        // and the call keeps no pointer.
         let outcome = unsafe { foreign::mls_public_message_locate(bytes.as_ptr(), bytes.len(), &mut found) };
         let (_, rest) = split_as(bytes, outcome)?;
         let fields = PublicMessageFields {
@@ -1585,7 +1720,8 @@ pub mod mls {
         Ok((fields, rest))
     }
 
-    /// Where the fields of a `PrivateMessage` are (RFC 9420, section 6.3). A span of `opaque` has the bytes without their length.
+    /// Where the fields of a `PrivateMessage` are (RFC 9420, section 6.3). A span of `opaque` has
+    /// the bytes without their length.
     #[derive(Clone, Copy, PartialEq, Eq, Debug)]
     pub struct PrivateMessageFields<'a> {
         /// `opaque group_id<V>;`
@@ -1602,10 +1738,12 @@ pub mod mls {
         pub ciphertext: &'a [u8],
     }
 
-    /// `PrivateMessage` (RFC 9420, section 6.3): returns the fields of the one that `bytes` begin with, and the rest.
+    /// `PrivateMessage` (RFC 9420, section 6.3): returns the fields of the one that `bytes` begin
+    /// with, and the rest.
     pub fn locate_private_message(bytes: &[u8]) -> Result<(PrivateMessageFields<'_>, &[u8]), Rejected> {
         let mut found = foreign::PrivateMessageFields::default();
-        // SAFETY: the pointer and the length are of one slice, nothing changes it during the call, and the call keeps no pointer.
+        // SAFETY: the pointer and the length are of one slice, nothing changes it during the call,
+        // and the call keeps no pointer.
         let outcome = unsafe { foreign::mls_private_message_locate(bytes.as_ptr(), bytes.len(), &mut found) };
         let (_, rest) = split_as(bytes, outcome)?;
         let fields = PrivateMessageFields {
@@ -1619,14 +1757,16 @@ pub mod mls {
         Ok((fields, rest))
     }
 
-    /// Where the fields of a `FramedContent` are (RFC 9420, section 6). A span of `opaque` has the bytes without their length.
+    /// Where the fields of a `FramedContent` are (RFC 9420, section 6). A span of `opaque` has the
+    /// bytes without their length.
     #[derive(Clone, Copy, PartialEq, Eq, Debug)]
     pub struct FramedContentFields<'a> {
         /// `opaque group_id<V>;`
         pub group_id: &'a [u8],
         /// `uint64 epoch;`
         pub epoch: &'a [u8],
-        /// `Sender sender;`: a byte of `SenderType`, then of a member or an external sender its index, a uint32
+        /// `Sender sender;`: a byte of `SenderType`, then of a member or an external sender its
+        /// index, a uint32
         pub sender: &'a [u8],
         /// `opaque authenticated_data<V>;`
         pub authenticated_data: &'a [u8],
@@ -1636,10 +1776,12 @@ pub mod mls {
         pub body: &'a [u8],
     }
 
-    /// `FramedContent` (RFC 9420, section 6), with which a `PublicMessage` begins: returns the fields of the one that `bytes` begin with, and the rest.
+    /// `FramedContent` (RFC 9420, section 6), with which a `PublicMessage` begins: returns the
+    /// fields of the one that `bytes` begin with, and the rest.
     pub fn locate_framed_content(bytes: &[u8]) -> Result<(FramedContentFields<'_>, &[u8]), Rejected> {
         let mut found = foreign::FramedContentFields::default();
-        // SAFETY: the pointer and the length are of one slice, nothing changes it during the call, and the call keeps no pointer.
+        // SAFETY: the pointer and the length are of one slice, nothing changes it during the call,
+        // and the call keeps no pointer.
         let outcome = unsafe { foreign::mls_framed_content_locate(bytes.as_ptr(), bytes.len(), &mut found) };
         let (_, rest) = split_as(bytes, outcome)?;
         let fields = FramedContentFields {
@@ -1664,10 +1806,12 @@ pub mod mls {
         pub reuse_guard: &'a [u8],
     }
 
-    /// `SenderData` (RFC 9420, section 6.3.2): returns the fields of the one that `bytes` begin with, and the rest.
+    /// `SenderData` (RFC 9420, section 6.3.2): returns the fields of the one that `bytes` begin
+    /// with, and the rest.
     pub fn locate_sender_data(bytes: &[u8]) -> Result<(SenderDataFields<'_>, &[u8]), Rejected> {
         let mut found = foreign::SenderDataFields::default();
-        // SAFETY: the pointer and the length are of one slice, nothing changes it during the call, and the call keeps no pointer.
+        // SAFETY: the pointer and the length are of one slice, nothing changes it during the call,
+        // and the call keeps no pointer.
         let outcome = unsafe { foreign::mls_sender_data_locate(bytes.as_ptr(), bytes.len(), &mut found) };
         let (_, rest) = split_as(bytes, outcome)?;
         let fields = SenderDataFields {
@@ -1678,7 +1822,8 @@ pub mod mls {
         Ok((fields, rest))
     }
 
-    /// Where the fields of a `KeyPackage` are (RFC 9420, section 10). A span of `opaque` has the bytes without their length.
+    /// Where the fields of a `KeyPackage` are (RFC 9420, section 10). A span of `opaque` has the
+    /// bytes without their length.
     #[derive(Clone, Copy, PartialEq, Eq, Debug)]
     pub struct KeyPackageFields<'a> {
         /// `ProtocolVersion version;`
@@ -1695,10 +1840,12 @@ pub mod mls {
         pub signature: &'a [u8],
     }
 
-    /// `KeyPackage` (RFC 9420, section 10): returns the fields of the one that `bytes` begin with, and the rest.
+    /// `KeyPackage` (RFC 9420, section 10): returns the fields of the one that `bytes` begin with,
+    /// and the rest.
     pub fn locate_key_package(bytes: &[u8]) -> Result<(KeyPackageFields<'_>, &[u8]), Rejected> {
         let mut found = foreign::KeyPackageFields::default();
-        // SAFETY: the pointer and the length are of one slice, nothing changes it during the call, and the call keeps no pointer.
+        // SAFETY: the pointer and the length are of one slice, nothing changes it during the call,
+        // and the call keeps no pointer.
         let outcome = unsafe { foreign::mls_key_package_locate(bytes.as_ptr(), bytes.len(), &mut found) };
         let (_, rest) = split_as(bytes, outcome)?;
         let fields = KeyPackageFields {
@@ -1712,7 +1859,8 @@ pub mod mls {
         Ok((fields, rest))
     }
 
-    /// Where the fields of a `LeafNode` are (RFC 9420, section 7.2). A span of `opaque` has the bytes without their length.
+    /// Where the fields of a `LeafNode` are (RFC 9420, section 7.2). A span of `opaque` has the
+    /// bytes without their length.
     #[derive(Clone, Copy, PartialEq, Eq, Debug)]
     pub struct LeafNodeFields<'a> {
         /// `HPKEPublicKey encryption_key;` without its length
@@ -1733,10 +1881,12 @@ pub mod mls {
         pub signature: &'a [u8],
     }
 
-    /// `LeafNode` (RFC 9420, section 7.2): returns the fields of the one that `bytes` begin with, and the rest.
+    /// `LeafNode` (RFC 9420, section 7.2): returns the fields of the one that `bytes` begin with,
+    /// and the rest.
     pub fn locate_leaf_node(bytes: &[u8]) -> Result<(LeafNodeFields<'_>, &[u8]), Rejected> {
         let mut found = foreign::LeafNodeFields::default();
-        // SAFETY: the pointer and the length are of one slice, nothing changes it during the call, and the call keeps no pointer.
+        // SAFETY: the pointer and the length are of one slice, nothing changes it during the call,
+        // and the call keeps no pointer.
         let outcome = unsafe { foreign::mls_leaf_node_locate(bytes.as_ptr(), bytes.len(), &mut found) };
         let (_, rest) = split_as(bytes, outcome)?;
         let fields = LeafNodeFields {
@@ -1752,7 +1902,8 @@ pub mod mls {
         Ok((fields, rest))
     }
 
-    /// Where the fields of a `Welcome` are (RFC 9420, section 12.4.3.1). A span of `opaque` has the bytes without their length.
+    /// Where the fields of a `Welcome` are (RFC 9420, section 12.4.3.1). A span of `opaque` has the
+    /// bytes without their length.
     #[derive(Clone, Copy, PartialEq, Eq, Debug)]
     pub struct WelcomeFields<'a> {
         /// `CipherSuite cipher_suite;`
@@ -1763,10 +1914,12 @@ pub mod mls {
         pub encrypted_group_info: &'a [u8],
     }
 
-    /// `Welcome` (RFC 9420, section 12.4.3.1): returns the fields of the one that `bytes` begin with, and the rest.
+    /// `Welcome` (RFC 9420, section 12.4.3.1): returns the fields of the one that `bytes` begin
+    /// with, and the rest.
     pub fn locate_welcome(bytes: &[u8]) -> Result<(WelcomeFields<'_>, &[u8]), Rejected> {
         let mut found = foreign::WelcomeFields::default();
-        // SAFETY: the pointer and the length are of one slice, nothing changes it during the call, and the call keeps no pointer.
+        // SAFETY: the pointer and the length are of one slice, nothing changes it during the call,
+        // and the call keeps no pointer.
         let outcome = unsafe { foreign::mls_welcome_locate(bytes.as_ptr(), bytes.len(), &mut found) };
         let (_, rest) = split_as(bytes, outcome)?;
         let fields = WelcomeFields {
@@ -1777,7 +1930,8 @@ pub mod mls {
         Ok((fields, rest))
     }
 
-    /// Where the fields of a `GroupSecrets` are (RFC 9420, section 12.4.3.1). A span of `opaque` has the bytes without their length.
+    /// Where the fields of a `GroupSecrets` are (RFC 9420, section 12.4.3.1). A span of `opaque`
+    /// has the bytes without their length.
     #[derive(Clone, Copy, PartialEq, Eq, Debug)]
     pub struct GroupSecretsFields<'a> {
         /// `opaque joiner_secret<V>;`
@@ -1788,10 +1942,12 @@ pub mod mls {
         pub psks: &'a [u8],
     }
 
-    /// `GroupSecrets` (RFC 9420, section 12.4.3.1): returns the fields of the one that `bytes` begin with, and the rest.
+    /// `GroupSecrets` (RFC 9420, section 12.4.3.1): returns the fields of the one that `bytes`
+    /// begin with, and the rest.
     pub fn locate_group_secrets(bytes: &[u8]) -> Result<(GroupSecretsFields<'_>, &[u8]), Rejected> {
         let mut found = foreign::GroupSecretsFields::default();
-        // SAFETY: the pointer and the length are of one slice, nothing changes it during the call, and the call keeps no pointer.
+        // SAFETY: the pointer and the length are of one slice, nothing changes it during the call,
+        // and the call keeps no pointer.
         let outcome = unsafe { foreign::mls_group_secrets_locate(bytes.as_ptr(), bytes.len(), &mut found) };
         let (_, rest) = split_as(bytes, outcome)?;
         let fields = GroupSecretsFields {
@@ -1802,7 +1958,8 @@ pub mod mls {
         Ok((fields, rest))
     }
 
-    /// Where the fields of a `GroupInfo` are (RFC 9420, section 12.4.3). A span of `opaque` has the bytes without their length.
+    /// Where the fields of a `GroupInfo` are (RFC 9420, section 12.4.3). A span of `opaque` has the
+    /// bytes without their length.
     #[derive(Clone, Copy, PartialEq, Eq, Debug)]
     pub struct GroupInfoFields<'a> {
         /// `GroupContext group_context;`
@@ -1817,10 +1974,12 @@ pub mod mls {
         pub signature: &'a [u8],
     }
 
-    /// `GroupInfo` (RFC 9420, section 12.4.3): returns the fields of the one that `bytes` begin with, and the rest.
+    /// `GroupInfo` (RFC 9420, section 12.4.3): returns the fields of the one that `bytes` begin
+    /// with, and the rest.
     pub fn locate_group_info(bytes: &[u8]) -> Result<(GroupInfoFields<'_>, &[u8]), Rejected> {
         let mut found = foreign::GroupInfoFields::default();
-        // SAFETY: the pointer and the length are of one slice, nothing changes it during the call, and the call keeps no pointer.
+        // SAFETY: the pointer and the length are of one slice, nothing changes it during the call,
+        // and the call keeps no pointer.
         let outcome = unsafe { foreign::mls_group_info_locate(bytes.as_ptr(), bytes.len(), &mut found) };
         let (_, rest) = split_as(bytes, outcome)?;
         let fields = GroupInfoFields {
@@ -1833,7 +1992,8 @@ pub mod mls {
         Ok((fields, rest))
     }
 
-    /// Where the fields of a `GroupContext` are (RFC 9420, section 8.1). A span of `opaque` has the bytes without their length.
+    /// Where the fields of a `GroupContext` are (RFC 9420, section 8.1). A span of `opaque` has the
+    /// bytes without their length.
     #[derive(Clone, Copy, PartialEq, Eq, Debug)]
     pub struct GroupContextFields<'a> {
         /// `ProtocolVersion version = mls10;`
@@ -1852,10 +2012,12 @@ pub mod mls {
         pub extensions: &'a [u8],
     }
 
-    /// `GroupContext` (RFC 9420, section 8.1): returns the fields of the one that `bytes` begin with, and the rest.
+    /// `GroupContext` (RFC 9420, section 8.1): returns the fields of the one that `bytes` begin
+    /// with, and the rest.
     pub fn locate_group_context(bytes: &[u8]) -> Result<(GroupContextFields<'_>, &[u8]), Rejected> {
         let mut found = foreign::GroupContextFields::default();
-        // SAFETY: the pointer and the length are of one slice, nothing changes it during the call, and the call keeps no pointer.
+        // SAFETY: the pointer and the length are of one slice, nothing changes it during the call,
+        // and the call keeps no pointer.
         let outcome = unsafe { foreign::mls_group_context_locate(bytes.as_ptr(), bytes.len(), &mut found) };
         let (_, rest) = split_as(bytes, outcome)?;
         let fields = GroupContextFields {
@@ -1879,10 +2041,12 @@ pub mod mls {
         pub path: &'a [u8],
     }
 
-    /// `Commit` (RFC 9420, section 12.4): returns the fields of the one that `bytes` begin with, and the rest.
+    /// `Commit` (RFC 9420, section 12.4): returns the fields of the one that `bytes` begin with,
+    /// and the rest.
     pub fn locate_commit(bytes: &[u8]) -> Result<(CommitFields<'_>, &[u8]), Rejected> {
         let mut found = foreign::CommitFields::default();
-        // SAFETY: the pointer and the length are of one slice, nothing changes it during the call, and the call keeps no pointer.
+        // SAFETY: the pointer and the length are of one slice, nothing changes it during the call,
+        // and the call keeps no pointer.
         let outcome = unsafe { foreign::mls_commit_locate(bytes.as_ptr(), bytes.len(), &mut found) };
         let (_, rest) = split_as(bytes, outcome)?;
         let fields = CommitFields {
@@ -1901,10 +2065,12 @@ pub mod mls {
         pub body: &'a [u8],
     }
 
-    /// `Proposal` (RFC 9420, section 12.1): returns the fields of the one that `bytes` begin with, and the rest.
+    /// `Proposal` (RFC 9420, section 12.1): returns the fields of the one that `bytes` begin with,
+    /// and the rest.
     pub fn locate_proposal(bytes: &[u8]) -> Result<(ProposalFields<'_>, &[u8]), Rejected> {
         let mut found = foreign::ProposalFields::default();
-        // SAFETY: the pointer and the length are of one slice, nothing changes it during the call, and the call keeps no pointer.
+        // SAFETY: the pointer and the length are of one slice, nothing changes it during the call,
+        // and the call keeps no pointer.
         let outcome = unsafe { foreign::mls_proposal_locate(bytes.as_ptr(), bytes.len(), &mut found) };
         let (_, rest) = split_as(bytes, outcome)?;
         let fields = ProposalFields {
@@ -1914,44 +2080,72 @@ pub mod mls {
         Ok((fields, rest))
     }
 
-    /// `MLSMessage` (RFC 9420, section 6), and its `WireFormat`: 1 is a public message, 2 a private message, 3 a welcome, 4 a group info, 5 a key package. Returns that number, and the rest of the bytes.
+    /// `MLSMessage` (RFC 9420, section 6), and its `WireFormat`: 1 is a public message, 2 a private
+    /// message, 3 a welcome, 4 a group info, 5 a key package. Returns that number, and the rest of
+    /// the bytes.
     pub fn message_wire_format(bytes: &[u8]) -> Result<(u16, &[u8]), Rejected> {
         let mut found = 0u16;
-        // SAFETY: the pointer and the length are of one slice, nothing changes it during the call, and the call keeps no pointer.
+        // SAFETY: the pointer and the length are of one slice, nothing changes it during the call,
+        // and the call keeps no pointer.
         let outcome = unsafe { foreign::mls_message_wire_format(bytes.as_ptr(), bytes.len(), &mut found) };
         let (_, rest) = split_as(bytes, outcome)?;
         Ok((found, rest))
     }
 
-    /// `FramedContentTBS` (RFC 9420, section 6.1): writes into `out` what `SignWithLabel` (section 5.1.2) signs of a message, under the label `FramedContentTBS`: the version, the wire format, the encoding of a `FramedContent`, and that of a `GroupContext` if the sender is a member or a new member that commits; else `context` is empty. Any wire format is written; a public message has 1, a private message 2. Returns the written bytes, if all of them are accepted. Else the error is that of validation, and its place counts from the first byte of `out`, which they stay in; a context that isn't signed is `TrailingData`. `out` has to have at least 4 + `content.len()` + `context.len()` bytes, the number of those that are written. If it has fewer, nothing is written, and the error is `InvalidWriteLength`. `Ok` says that the written bytes are a `FramedContentTBS`, not that `content` ends where you say: validate both parts before, or take them from `locate_NAME`.
+    /// `FramedContentTBS` (RFC 9420, section 6.1): writes into `out` what `SignWithLabel` (section
+    /// 5.1.2) signs of a message, under the label `FramedContentTBS`: the version, the wire format,
+    /// the encoding of a `FramedContent`, and that of a `GroupContext` if the sender is a member or
+    /// a new member that commits; else `context` is empty. Any wire format is written; a public
+    /// message has 1, a private message 2. Returns the written bytes, if all of them are accepted.
+    /// Else the error is that of validation, and its place counts from the first byte of `out`,
+    /// which they stay in; a context that isn't signed is `TrailingData`. `out` has to have at
+    /// least 4 + `content.len()` + `context.len()` bytes, the number of those that are written. If
+    /// it has fewer, nothing is written, and the error is `InvalidWriteLength`. `Ok` says that the
+    /// written bytes are a `FramedContentTBS`, not that `content` ends where you say: validate both
+    /// parts before, or take them from `locate_NAME`.
     pub fn framed_content_tbs<'a>(wire_format: u16, content: &[u8], context: &[u8], out: &'a mut [u8]) -> Result<&'a [u8], Rejected> {
-        // SAFETY: each pointer and its length are of one slice, nothing else changes or reads it during the call, and the call keeps no pointer.
-        let outcome = unsafe { foreign::mls_framed_content_tbs_encode(wire_format, content.as_ptr(), content.len(), context.as_ptr(), context.len(), out.as_mut_ptr(), out.len()) };
+        // SAFETY: each pointer and its length are of one slice, nothing else changes or reads it
+        // during the call, and the call keeps no pointer.
+        let outcome = unsafe {
+            foreign::mls_framed_content_tbs_encode(
+                wire_format,
+                content.as_ptr(), content.len(),
+                context.as_ptr(), context.len(),
+                out.as_mut_ptr(), out.len(),
+            )
+        };
         written_as(out, 4 + content.len() + context.len(), outcome)
     }
 
-    /// `Extension` (RFC 9420, section 7.2): an iterator over a list's elements. `content` is the list without its length; an error's `at` counts from its first byte.
+    /// `Extension` (RFC 9420, section 7.2): an iterator over a list's elements. `content` is the
+    /// list without its length; an error's `at` counts from its first byte.
     pub fn extension_elements(content: &[u8]) -> Elements<'_> {
         Elements::of(content, foreign::mls_extension_next)
     }
 
-    /// `optional<Node>` of a `RatchetTree` (RFC 9420, section 12.4.3.3): an iterator over a list's elements. `content` is the list without its length; an error's `at` counts from its first byte.
+    /// `optional<Node>` of a `RatchetTree` (RFC 9420, section 12.4.3.3): an iterator over a list's
+    /// elements. `content` is the list without its length; an error's `at` counts from its first
+    /// byte.
     pub fn optional_node_elements(content: &[u8]) -> Elements<'_> {
         Elements::of(content, foreign::mls_optional_node_next)
     }
 
-    /// `ProposalOrRef` of a `Commit` (RFC 9420, section 12.4): an iterator over a list's elements. `content` is the list without its length; an error's `at` counts from its first byte.
+    /// `ProposalOrRef` of a `Commit` (RFC 9420, section 12.4): an iterator over a list's elements.
+    /// `content` is the list without its length; an error's `at` counts from its first byte.
     pub fn proposal_or_ref_elements(content: &[u8]) -> Elements<'_> {
         Elements::of(content, foreign::mls_proposal_or_ref_next)
     }
 
-    /// `EncryptedGroupSecrets` of a `Welcome` (RFC 9420, section 12.4.3.1): an iterator over a list's elements. `content` is the list without its length; an error's `at` counts from its first byte.
+    /// `EncryptedGroupSecrets` of a `Welcome` (RFC 9420, section 12.4.3.1): an iterator over a
+    /// list's elements. `content` is the list without its length; an error's `at` counts from its
+    /// first byte.
     pub fn encrypted_group_secrets_elements(content: &[u8]) -> Elements<'_> {
         Elements::of(content, foreign::mls_encrypted_group_secrets_next)
     }
 }
 
-/// Checks whether bytes begin with a message of MLS: its decoder makes the value and drops it. `OutOfMemory`: memory was refused, and nothing is said about the bytes. No position is reported.
+/// Checks whether bytes begin with a message of MLS: its decoder makes the value and drops it.
+/// `OutOfMemory`: memory was refused, and nothing is said about the bytes. No position is reported.
 #[cfg(feature = "check")]
 pub mod mls_check {
     use crate::{Error, split, whole};
@@ -1978,142 +2172,170 @@ pub mod mls_check {
         }
     }
 
-    /// `MLSMessage` (RFC 9420, section 6): whether `bytes` are one, with nothing after it, by the decoder.
+    /// `MLSMessage` (RFC 9420, section 6): whether `bytes` are one, with nothing after it, by the
+    /// decoder.
     pub fn decode_check_message(bytes: &[u8]) -> Result<(), Error> {
         whole(bytes, foreign::mls_message_decode_check).map_err(|it| it.error)
     }
 
-    /// `MLSMessage` (RFC 9420, section 6): returns the bytes of the one that `bytes` begin with, and the rest, by the decoder.
+    /// `MLSMessage` (RFC 9420, section 6): returns the bytes of the one that `bytes` begin with,
+    /// and the rest, by the decoder.
     pub fn decode_check_message_prefix(bytes: &[u8]) -> Result<(&[u8], &[u8]), Error> {
         split(bytes, foreign::mls_message_decode_check).map_err(|it| it.error)
     }
 
-    /// `PublicMessage` (RFC 9420, section 6.2): whether `bytes` are one, with nothing after it, by the decoder.
+    /// `PublicMessage` (RFC 9420, section 6.2): whether `bytes` are one, with nothing after it, by
+    /// the decoder.
     pub fn decode_check_public_message(bytes: &[u8]) -> Result<(), Error> {
         whole(bytes, foreign::mls_public_message_decode_check).map_err(|it| it.error)
     }
 
-    /// `PublicMessage` (RFC 9420, section 6.2): returns the bytes of the one that `bytes` begin with, and the rest, by the decoder.
+    /// `PublicMessage` (RFC 9420, section 6.2): returns the bytes of the one that `bytes` begin
+    /// with, and the rest, by the decoder.
     pub fn decode_check_public_message_prefix(bytes: &[u8]) -> Result<(&[u8], &[u8]), Error> {
         split(bytes, foreign::mls_public_message_decode_check).map_err(|it| it.error)
     }
 
-    /// `PrivateMessage` (RFC 9420, section 6.3): whether `bytes` are one, with nothing after it, by the decoder.
+    /// `PrivateMessage` (RFC 9420, section 6.3): whether `bytes` are one, with nothing after it, by
+    /// the decoder.
     pub fn decode_check_private_message(bytes: &[u8]) -> Result<(), Error> {
         whole(bytes, foreign::mls_private_message_decode_check).map_err(|it| it.error)
     }
 
-    /// `PrivateMessage` (RFC 9420, section 6.3): returns the bytes of the one that `bytes` begin with, and the rest, by the decoder.
+    /// `PrivateMessage` (RFC 9420, section 6.3): returns the bytes of the one that `bytes` begin
+    /// with, and the rest, by the decoder.
     pub fn decode_check_private_message_prefix(bytes: &[u8]) -> Result<(&[u8], &[u8]), Error> {
         split(bytes, foreign::mls_private_message_decode_check).map_err(|it| it.error)
     }
 
-    /// `FramedContent` (RFC 9420, section 6): whether `bytes` are one, with nothing after it, by the decoder.
+    /// `FramedContent` (RFC 9420, section 6): whether `bytes` are one, with nothing after it, by
+    /// the decoder.
     pub fn decode_check_framed_content(bytes: &[u8]) -> Result<(), Error> {
         whole(bytes, foreign::mls_framed_content_decode_check).map_err(|it| it.error)
     }
 
-    /// `FramedContent` (RFC 9420, section 6): returns the bytes of the one that `bytes` begin with, and the rest, by the decoder.
+    /// `FramedContent` (RFC 9420, section 6): returns the bytes of the one that `bytes` begin with,
+    /// and the rest, by the decoder.
     pub fn decode_check_framed_content_prefix(bytes: &[u8]) -> Result<(&[u8], &[u8]), Error> {
         split(bytes, foreign::mls_framed_content_decode_check).map_err(|it| it.error)
     }
 
-    /// `SenderData` (RFC 9420, section 6.3.2): whether `bytes` are one, with nothing after it, by the decoder.
+    /// `SenderData` (RFC 9420, section 6.3.2): whether `bytes` are one, with nothing after it, by
+    /// the decoder.
     pub fn decode_check_sender_data(bytes: &[u8]) -> Result<(), Error> {
         whole(bytes, foreign::mls_sender_data_decode_check).map_err(|it| it.error)
     }
 
-    /// `SenderData` (RFC 9420, section 6.3.2): returns the bytes of the one that `bytes` begin with, and the rest, by the decoder.
+    /// `SenderData` (RFC 9420, section 6.3.2): returns the bytes of the one that `bytes` begin
+    /// with, and the rest, by the decoder.
     pub fn decode_check_sender_data_prefix(bytes: &[u8]) -> Result<(&[u8], &[u8]), Error> {
         split(bytes, foreign::mls_sender_data_decode_check).map_err(|it| it.error)
     }
 
-    /// `Welcome` (RFC 9420, section 12.4.3.1): whether `bytes` are one, with nothing after it, by the decoder.
+    /// `Welcome` (RFC 9420, section 12.4.3.1): whether `bytes` are one, with nothing after it, by
+    /// the decoder.
     pub fn decode_check_welcome(bytes: &[u8]) -> Result<(), Error> {
         whole(bytes, foreign::mls_welcome_decode_check).map_err(|it| it.error)
     }
 
-    /// `Welcome` (RFC 9420, section 12.4.3.1): returns the bytes of the one that `bytes` begin with, and the rest, by the decoder.
+    /// `Welcome` (RFC 9420, section 12.4.3.1): returns the bytes of the one that `bytes` begin
+    /// with, and the rest, by the decoder.
     pub fn decode_check_welcome_prefix(bytes: &[u8]) -> Result<(&[u8], &[u8]), Error> {
         split(bytes, foreign::mls_welcome_decode_check).map_err(|it| it.error)
     }
 
-    /// `GroupSecrets` (RFC 9420, section 12.4.3.1): whether `bytes` are one, with nothing after it, by the decoder.
+    /// `GroupSecrets` (RFC 9420, section 12.4.3.1): whether `bytes` are one, with nothing after it,
+    /// by the decoder.
     pub fn decode_check_group_secrets(bytes: &[u8]) -> Result<(), Error> {
         whole(bytes, foreign::mls_group_secrets_decode_check).map_err(|it| it.error)
     }
 
-    /// `GroupSecrets` (RFC 9420, section 12.4.3.1): returns the bytes of the one that `bytes` begin with, and the rest, by the decoder.
+    /// `GroupSecrets` (RFC 9420, section 12.4.3.1): returns the bytes of the one that `bytes` begin
+    /// with, and the rest, by the decoder.
     pub fn decode_check_group_secrets_prefix(bytes: &[u8]) -> Result<(&[u8], &[u8]), Error> {
         split(bytes, foreign::mls_group_secrets_decode_check).map_err(|it| it.error)
     }
 
-    /// `GroupInfo` (RFC 9420, section 12.4.3): whether `bytes` are one, with nothing after it, by the decoder.
+    /// `GroupInfo` (RFC 9420, section 12.4.3): whether `bytes` are one, with nothing after it, by
+    /// the decoder.
     pub fn decode_check_group_info(bytes: &[u8]) -> Result<(), Error> {
         whole(bytes, foreign::mls_group_info_decode_check).map_err(|it| it.error)
     }
 
-    /// `GroupInfo` (RFC 9420, section 12.4.3): returns the bytes of the one that `bytes` begin with, and the rest, by the decoder.
+    /// `GroupInfo` (RFC 9420, section 12.4.3): returns the bytes of the one that `bytes` begin
+    /// with, and the rest, by the decoder.
     pub fn decode_check_group_info_prefix(bytes: &[u8]) -> Result<(&[u8], &[u8]), Error> {
         split(bytes, foreign::mls_group_info_decode_check).map_err(|it| it.error)
     }
 
-    /// `GroupContext` (RFC 9420, section 8.1): whether `bytes` are one, with nothing after it, by the decoder.
+    /// `GroupContext` (RFC 9420, section 8.1): whether `bytes` are one, with nothing after it, by
+    /// the decoder.
     pub fn decode_check_group_context(bytes: &[u8]) -> Result<(), Error> {
         whole(bytes, foreign::mls_group_context_decode_check).map_err(|it| it.error)
     }
 
-    /// `GroupContext` (RFC 9420, section 8.1): returns the bytes of the one that `bytes` begin with, and the rest, by the decoder.
+    /// `GroupContext` (RFC 9420, section 8.1): returns the bytes of the one that `bytes` begin
+    /// with, and the rest, by the decoder.
     pub fn decode_check_group_context_prefix(bytes: &[u8]) -> Result<(&[u8], &[u8]), Error> {
         split(bytes, foreign::mls_group_context_decode_check).map_err(|it| it.error)
     }
 
-    /// `Commit` (RFC 9420, section 12.4): whether `bytes` are one, with nothing after it, by the decoder.
+    /// `Commit` (RFC 9420, section 12.4): whether `bytes` are one, with nothing after it, by the
+    /// decoder.
     pub fn decode_check_commit(bytes: &[u8]) -> Result<(), Error> {
         whole(bytes, foreign::mls_commit_decode_check).map_err(|it| it.error)
     }
 
-    /// `Commit` (RFC 9420, section 12.4): returns the bytes of the one that `bytes` begin with, and the rest, by the decoder.
+    /// `Commit` (RFC 9420, section 12.4): returns the bytes of the one that `bytes` begin with, and
+    /// the rest, by the decoder.
     pub fn decode_check_commit_prefix(bytes: &[u8]) -> Result<(&[u8], &[u8]), Error> {
         split(bytes, foreign::mls_commit_decode_check).map_err(|it| it.error)
     }
 
-    /// `Proposal` (RFC 9420, section 12.1): whether `bytes` are one, with nothing after it, by the decoder.
+    /// `Proposal` (RFC 9420, section 12.1): whether `bytes` are one, with nothing after it, by the
+    /// decoder.
     pub fn decode_check_proposal(bytes: &[u8]) -> Result<(), Error> {
         whole(bytes, foreign::mls_proposal_decode_check).map_err(|it| it.error)
     }
 
-    /// `Proposal` (RFC 9420, section 12.1): returns the bytes of the one that `bytes` begin with, and the rest, by the decoder.
+    /// `Proposal` (RFC 9420, section 12.1): returns the bytes of the one that `bytes` begin with,
+    /// and the rest, by the decoder.
     pub fn decode_check_proposal_prefix(bytes: &[u8]) -> Result<(&[u8], &[u8]), Error> {
         split(bytes, foreign::mls_proposal_decode_check).map_err(|it| it.error)
     }
 
-    /// `KeyPackage` (RFC 9420, section 10): whether `bytes` are one, with nothing after it, by the decoder.
+    /// `KeyPackage` (RFC 9420, section 10): whether `bytes` are one, with nothing after it, by the
+    /// decoder.
     pub fn decode_check_key_package(bytes: &[u8]) -> Result<(), Error> {
         whole(bytes, foreign::mls_key_package_decode_check).map_err(|it| it.error)
     }
 
-    /// `KeyPackage` (RFC 9420, section 10): returns the bytes of the one that `bytes` begin with, and the rest, by the decoder.
+    /// `KeyPackage` (RFC 9420, section 10): returns the bytes of the one that `bytes` begin with,
+    /// and the rest, by the decoder.
     pub fn decode_check_key_package_prefix(bytes: &[u8]) -> Result<(&[u8], &[u8]), Error> {
         split(bytes, foreign::mls_key_package_decode_check).map_err(|it| it.error)
     }
 
-    /// `LeafNode` (RFC 9420, section 7.2): whether `bytes` are one, with nothing after it, by the decoder.
+    /// `LeafNode` (RFC 9420, section 7.2): whether `bytes` are one, with nothing after it, by the
+    /// decoder.
     pub fn decode_check_leaf_node(bytes: &[u8]) -> Result<(), Error> {
         whole(bytes, foreign::mls_leaf_node_decode_check).map_err(|it| it.error)
     }
 
-    /// `LeafNode` (RFC 9420, section 7.2): returns the bytes of the one that `bytes` begin with, and the rest, by the decoder.
+    /// `LeafNode` (RFC 9420, section 7.2): returns the bytes of the one that `bytes` begin with,
+    /// and the rest, by the decoder.
     pub fn decode_check_leaf_node_prefix(bytes: &[u8]) -> Result<(&[u8], &[u8]), Error> {
         split(bytes, foreign::mls_leaf_node_decode_check).map_err(|it| it.error)
     }
 
-    /// `RatchetTree` (RFC 9420, section 12.4.3.3): whether `bytes` are one, with nothing after it, by the decoder.
+    /// `RatchetTree` (RFC 9420, section 12.4.3.3): whether `bytes` are one, with nothing after it,
+    /// by the decoder.
     pub fn decode_check_ratchet_tree(bytes: &[u8]) -> Result<(), Error> {
         whole(bytes, foreign::mls_ratchet_tree_decode_check).map_err(|it| it.error)
     }
 
-    /// `RatchetTree` (RFC 9420, section 12.4.3.3): returns the bytes of the one that `bytes` begin with, and the rest, by the decoder.
+    /// `RatchetTree` (RFC 9420, section 12.4.3.3): returns the bytes of the one that `bytes` begin
+    /// with, and the rest, by the decoder.
     pub fn decode_check_ratchet_tree_prefix(bytes: &[u8]) -> Result<(&[u8], &[u8]), Error> {
         split(bytes, foreign::mls_ratchet_tree_decode_check).map_err(|it| it.error)
     }

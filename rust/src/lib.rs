@@ -23,7 +23,7 @@
 //! `validate_NAME` and `decode_check_NAME` need all of the bytes to be one message. Each other function accepts bytes that come after it:
 //! `validate_NAME_prefix`, `locate_NAME` and `message_wire_format` return them.
 #![no_std]
-#![deny(missing_docs)]
+#![deny(missing_docs, missing_debug_implementations)]
 
 #[rustfmt::skip]
 mod exports;
@@ -75,8 +75,8 @@ pub fn number(field: &[u8]) -> Option<u64> {
     (field.len() <= 8).then(|| field.iter().fold(0, |value, byte| value << 8 | u64::from(*byte)))
 }
 
-/// The value of a variable-length integer, as [`lengths::validate_varint_prefix`] returns one; `None` if the width that it begins with isn't that of the
-/// slice.
+/// The value of a variable-length integer, as [`lengths::validate_varint_prefix`] returns one; `None` if the width that it begins
+/// with isn't that of the slice.
 ///
 /// ```
 /// assert_eq!(tls_codec_validators::varint_value(&[0x7b, 0xbd]), Some(15_293));
@@ -134,6 +134,7 @@ type Next = unsafe extern "C" fn(*const u8, usize, &mut Span, &mut Span) -> Outc
 /// // two extensions, of which the second one's length says more than there is
 /// let mut list = tls13::extension_elements(&[0, 10, 0, 0, 0, 43, 0, 1]);
 /// assert_eq!(list.next(), Some(Ok(&[0, 10, 0, 0][..])));
+/// assert_eq!(format!("{list:?}"), "Elements([0, 43, 0, 1])");
 /// assert_eq!(list.next(), Some(Err(Rejected { error: Error::EndOfStream, at: 6 })));
 /// assert_eq!(list.next(), None);
 /// ```
@@ -148,6 +149,13 @@ impl<'a> Elements<'a> {
     fn of(content: &'a [u8], next: Next) -> Elements<'a> {
         let left = Span { offset: 0, size: content.len() };
         Elements { content, left, next }
+    }
+}
+
+/// The bytes that are left.
+impl fmt::Debug for Elements<'_> {
+    fn fmt(&self, f: &mut fmt::Formatter<'_>) -> fmt::Result {
+        f.debug_tuple("Elements").field(&self.left.of(self.content)).finish()
     }
 }
 

@@ -1,6 +1,7 @@
 //! Decoders: the rows, and beside the validators changed rows and random bytes, for three seconds or `TLS_CODEC_SECONDS`.
 #![cfg(feature = "check")]
 
+#[macro_use]
 mod common;
 
 use common::{bytes_of, error_of};
@@ -19,48 +20,12 @@ struct Message {
 }
 
 macro_rules! messages {
-    ($($validators:ident $decoders:ident { $($name:ident: $validate:ident $decode_prefix:ident $decode:ident;)* })*) => {
-        &[$($(Message {
-            name: concat!(stringify!($validators), "_", stringify!($name)),
-            validate_prefix: $validators::$validate,
-            decode_prefix: $decoders::$decode_prefix,
-            decode: $decoders::$decode,
-        },)*)*]
+    ($($name:literal: $whole:path, $prefix:path, $decode:path, $decode_prefix:path;)*) => {
+        &[$(Message { name: $name, validate_prefix: $prefix, decode_prefix: $decode_prefix, decode: $decode },)*]
     };
 }
 
-const MESSAGES: &[Message] = messages! {
-    mls mls_check {
-        message: validate_message_prefix decode_check_message_prefix decode_check_message;
-        public_message: validate_public_message_prefix decode_check_public_message_prefix decode_check_public_message;
-        private_message: validate_private_message_prefix decode_check_private_message_prefix decode_check_private_message;
-        framed_content: validate_framed_content_prefix decode_check_framed_content_prefix decode_check_framed_content;
-        sender_data: validate_sender_data_prefix decode_check_sender_data_prefix decode_check_sender_data;
-        welcome: validate_welcome_prefix decode_check_welcome_prefix decode_check_welcome;
-        group_secrets: validate_group_secrets_prefix decode_check_group_secrets_prefix decode_check_group_secrets;
-        group_info: validate_group_info_prefix decode_check_group_info_prefix decode_check_group_info;
-        group_context: validate_group_context_prefix decode_check_group_context_prefix decode_check_group_context;
-        commit: validate_commit_prefix decode_check_commit_prefix decode_check_commit;
-        proposal: validate_proposal_prefix decode_check_proposal_prefix decode_check_proposal;
-        key_package: validate_key_package_prefix decode_check_key_package_prefix decode_check_key_package;
-        leaf_node: validate_leaf_node_prefix decode_check_leaf_node_prefix decode_check_leaf_node;
-        ratchet_tree: validate_ratchet_tree_prefix decode_check_ratchet_tree_prefix decode_check_ratchet_tree;
-    }
-    tls13 tls13_check {
-        tls_plaintext: validate_tls_plaintext_prefix decode_check_tls_plaintext_prefix decode_check_tls_plaintext;
-        tls_ciphertext: validate_tls_ciphertext_prefix decode_check_tls_ciphertext_prefix decode_check_tls_ciphertext;
-        alert: validate_alert_prefix decode_check_alert_prefix decode_check_alert;
-        handshake: validate_handshake_prefix decode_check_handshake_prefix decode_check_handshake;
-        client_hello: validate_client_hello_prefix decode_check_client_hello_prefix decode_check_client_hello;
-        server_hello: validate_server_hello_prefix decode_check_server_hello_prefix decode_check_server_hello;
-        encrypted_extensions: validate_encrypted_extensions_prefix decode_check_encrypted_extensions_prefix decode_check_encrypted_extensions;
-        certificate_request: validate_certificate_request_prefix decode_check_certificate_request_prefix decode_check_certificate_request;
-        certificate: validate_certificate_prefix decode_check_certificate_prefix decode_check_certificate;
-        certificate_verify: validate_certificate_verify_prefix decode_check_certificate_verify_prefix decode_check_certificate_verify;
-        new_session_ticket: validate_new_session_ticket_prefix decode_check_new_session_ticket_prefix decode_check_new_session_ticket;
-        key_update: validate_key_update_prefix decode_check_key_update_prefix decode_check_key_update;
-    }
-};
+const MESSAGES: &[Message] = each_message!(messages);
 
 struct Row {
     message: &'static Message,

@@ -1,5 +1,6 @@
 //! The rows of `test_places` and `c/tests/lengths.tsv`, and the fields in those of `test_outcome`: the elements of lists, the wire format of a message,
 //! the fields of each message that has some, and lengths.
+#[macro_use]
 mod common;
 
 use common::{bytes_of, error_of};
@@ -9,76 +10,46 @@ use tls_codec_validators::{Elements, Rejected, lengths, mls, tls13};
 /// What is found, in order, and the rest of the bytes.
 type Found<'a> = Result<(Vec<&'a [u8]>, &'a [u8]), Rejected>;
 
-fn elements<'a>(name: &str, content: &'a [u8]) -> Option<Elements<'a>> {
-    Some(match name {
-        "mls_extension_next" => mls::extension_elements(content),
-        "mls_optional_node_next" => mls::optional_node_elements(content),
-        "mls_proposal_or_ref_next" => mls::proposal_or_ref_elements(content),
-        "mls_encrypted_group_secrets_next" => mls::encrypted_group_secrets_elements(content),
-        "tls13_extension_next" => tls13::extension_elements(content),
-        "tls13_key_share_entry_next" => tls13::key_share_entry_elements(content),
-        "tls13_certificate_entry_next" => tls13::certificate_entry_elements(content),
-        _ => return None,
-    })
-}
-
-/// Writes `fields`: the function of a name finds its message's fields. Each line has C's name for the function without its module and
-/// `_locate`, the function, and the fields of its struct in order.
-macro_rules! fields {
-    ($($module:ident { $($name:ident $call:ident: $($field:ident)*;)* })*) => {
-        fn fields<'a>(name: &str, bytes: &'a [u8]) -> Option<Found<'a>> {
-            $($(if name == concat!(stringify!($module), "_", stringify!($name), "_locate") {
-                return Some($module::$call(bytes).map(|(it, rest)| (vec![$(it.$field),*], rest)));
-            })*)*
-            None
+/// Writes the function that finds a list's elements, by C's name of the call.
+macro_rules! elements {
+    ($($name:literal: $elements:path;)*) => {
+        fn elements<'a>(name: &str, content: &'a [u8]) -> Option<Elements<'a>> {
+            Some(match name {
+                $($name => $elements(content),)*
+                _ => return None,
+            })
         }
     };
 }
 
-fields! {
-    tls13 {
-        handshake locate_handshake: msg_type body;
-        client_hello locate_client_hello: legacy_version random legacy_session_id cipher_suites legacy_compression_methods extensions;
-        server_hello locate_server_hello: legacy_version random legacy_session_id_echo cipher_suite legacy_compression_method extensions;
-        encrypted_extensions locate_encrypted_extensions: extensions;
-        certificate_request locate_certificate_request: certificate_request_context extensions;
-        certificate locate_certificate: certificate_request_context certificate_list;
-        certificate_verify locate_certificate_verify: algorithm signature;
-        new_session_ticket locate_new_session_ticket: ticket_lifetime ticket_age_add ticket_nonce ticket extensions;
-        key_update locate_key_update: request_update;
-        tls_plaintext locate_tls_plaintext: r#type legacy_record_version fragment;
-        tls_ciphertext locate_tls_ciphertext: opaque_type legacy_record_version encrypted_record;
-        alert locate_alert: level description;
-    }
-    mls {
-        message locate_message: version wire_format body;
-        public_message locate_public_message: content auth membership_tag;
-        private_message locate_private_message: group_id epoch content_type authenticated_data encrypted_sender_data ciphertext;
-        framed_content locate_framed_content: group_id epoch sender authenticated_data content_type body;
-        sender_data locate_sender_data: leaf_index generation reuse_guard;
-        key_package locate_key_package: version cipher_suite init_key leaf_node extensions signature;
-        leaf_node locate_leaf_node: encryption_key signature_key credential capabilities leaf_node_source origin extensions signature;
-        welcome locate_welcome: cipher_suite secrets encrypted_group_info;
-        group_secrets locate_group_secrets: joiner_secret path_secret psks;
-        group_info locate_group_info: group_context extensions confirmation_tag signer signature;
-        group_context locate_group_context: version cipher_suite group_id epoch tree_hash confirmed_transcript_hash extensions;
-        commit locate_commit: proposals path;
-        proposal locate_proposal: proposal_type body;
-    }
+/// Writes the function that finds a message's fields.
+macro_rules! fields {
+    ($($name:literal: $locate:path, $($field:ident)*;)*) => {
+        fn fields<'a>(name: &str, bytes: &'a [u8]) -> Option<Found<'a>> {
+            Some(match name {
+                $($name => $locate(bytes).map(|(it, rest)| (vec![$(it.$field),*], rest)),)*
+                _ => return None,
+            })
+        }
+    };
 }
 
-/// The content after a length; nothing is filled of a variable-length integer.
-fn content<'a>(name: &str, bytes: &'a [u8]) -> Option<Found<'a>> {
-    let locate = match name {
-        "tls_codec_varint_validate_prefix" => return Some(lengths::validate_varint_prefix(bytes).map(|(_, rest)| (Vec::new(), rest))),
-        "tls_codec_opaque_v_locate" => lengths::locate_opaque_v,
-        "tls_codec_opaque_u8_locate" => lengths::locate_opaque_u8,
-        "tls_codec_opaque_u16_locate" => lengths::locate_opaque_u16,
-        "tls_codec_opaque_u24_locate" => lengths::locate_opaque_u24,
-        _ => return None,
+/// Writes the function that finds the content after a length; nothing is filled of a variable-length integer.
+macro_rules! content {
+    ($($name:literal: $locate:path;)*) => {
+        fn content<'a>(name: &str, bytes: &'a [u8]) -> Option<Found<'a>> {
+            Some(match name {
+                $($name => $locate(bytes).map(|(content, rest)| (vec![content], rest)),)*
+                "tls_codec_varint_validate_prefix" => lengths::validate_varint_prefix(bytes).map(|(_, rest)| (Vec::new(), rest)),
+                _ => return None,
+            })
+        }
     };
-    Some(locate(bytes).map(|(content, rest)| (vec![content], rest)))
 }
+
+each_list!(elements);
+each_located!(fields);
+each_content!(content);
 
 /// A row of a file.
 struct Row {

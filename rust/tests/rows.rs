@@ -1,4 +1,5 @@
 //! The rows of `test_outcome` and of `c/tests/tls13.tsv`: what each message's validator says.
+#[macro_use]
 mod common;
 
 use common::{bytes_of, error_of};
@@ -8,38 +9,19 @@ use tls_codec_validators::{Error, Rejected, lengths, mls, number, tls13, varint_
 type Whole = fn(&[u8]) -> Result<(), Rejected>;
 type Prefix = fn(&[u8]) -> Result<(&[u8], &[u8]), Rejected>;
 
-/// The two functions of a message: of all of the bytes, and of those that they begin with.
-fn calls(name: &str) -> (Whole, Prefix) {
-    match name {
-        "mls_message" => (mls::validate_message, mls::validate_message_prefix),
-        "mls_public_message" => (mls::validate_public_message, mls::validate_public_message_prefix),
-        "mls_private_message" => (mls::validate_private_message, mls::validate_private_message_prefix),
-        "mls_framed_content" => (mls::validate_framed_content, mls::validate_framed_content_prefix),
-        "mls_sender_data" => (mls::validate_sender_data, mls::validate_sender_data_prefix),
-        "mls_welcome" => (mls::validate_welcome, mls::validate_welcome_prefix),
-        "mls_group_secrets" => (mls::validate_group_secrets, mls::validate_group_secrets_prefix),
-        "mls_group_info" => (mls::validate_group_info, mls::validate_group_info_prefix),
-        "mls_group_context" => (mls::validate_group_context, mls::validate_group_context_prefix),
-        "mls_commit" => (mls::validate_commit, mls::validate_commit_prefix),
-        "mls_proposal" => (mls::validate_proposal, mls::validate_proposal_prefix),
-        "mls_key_package" => (mls::validate_key_package, mls::validate_key_package_prefix),
-        "mls_leaf_node" => (mls::validate_leaf_node, mls::validate_leaf_node_prefix),
-        "mls_ratchet_tree" => (mls::validate_ratchet_tree, mls::validate_ratchet_tree_prefix),
-        "tls13_tls_plaintext" => (tls13::validate_tls_plaintext, tls13::validate_tls_plaintext_prefix),
-        "tls13_tls_ciphertext" => (tls13::validate_tls_ciphertext, tls13::validate_tls_ciphertext_prefix),
-        "tls13_alert" => (tls13::validate_alert, tls13::validate_alert_prefix),
-        "tls13_handshake" => (tls13::validate_handshake, tls13::validate_handshake_prefix),
-        "tls13_client_hello" => (tls13::validate_client_hello, tls13::validate_client_hello_prefix),
-        "tls13_server_hello" => (tls13::validate_server_hello, tls13::validate_server_hello_prefix),
-        "tls13_encrypted_extensions" => (tls13::validate_encrypted_extensions, tls13::validate_encrypted_extensions_prefix),
-        "tls13_certificate_request" => (tls13::validate_certificate_request, tls13::validate_certificate_request_prefix),
-        "tls13_certificate" => (tls13::validate_certificate, tls13::validate_certificate_prefix),
-        "tls13_certificate_verify" => (tls13::validate_certificate_verify, tls13::validate_certificate_verify_prefix),
-        "tls13_new_session_ticket" => (tls13::validate_new_session_ticket, tls13::validate_new_session_ticket_prefix),
-        "tls13_key_update" => (tls13::validate_key_update, tls13::validate_key_update_prefix),
-        other => panic!("no message {other}"),
-    }
+/// Writes the function that finds the two functions of a message's validator: of all of the bytes, and of those that they begin with.
+macro_rules! calls {
+    ($($name:literal: $whole:path, $prefix:path, $decode:path, $decode_prefix:path;)*) => {
+        fn calls(name: &str) -> (Whole, Prefix) {
+            match name {
+                $($name => ($whole, $prefix),)*
+                other => panic!("no message {other}"),
+            }
+        }
+    };
 }
+
+each_message!(calls);
 
 #[test]
 fn each_row_of_mls_has_its_outcome() {

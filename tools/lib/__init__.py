@@ -6,7 +6,7 @@ All files are UTF-8. .ci/run and quick set PYTHONUTF8; without it Python reads f
   verdicts (wrong bodies).
 - Readers that share no code with the crates: presentation and message_reader (texts of RFCs), row_reader (types), outcome_reader
   (messages), shown (numbers, dates), dump_input (inputs of `tlsdump`), rejections (those that it rejects).
-- Callers: exported and registries (what is exported), headers and exports_rust (what exports.py writes), shared_object; caller_* is of
-  test_callers.py.
+- Callers: exported and registries (what is exported); exports_c with headers, exports_rust and exports_python (what check_exports.py
+  writes); shared_object; failed (their exception); caller_* is of test_callers.py.
 - Pages: blocks, page_commands, figures. The folder laws/ is of write_laws.py.
 """

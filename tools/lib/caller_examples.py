@@ -8,7 +8,8 @@ import shutil
 import subprocess
 
 from lib.caller_inputs import SENT, hellos
-from lib.caller_room import COMMIT, SANITIZED, WARNINGS, Failed, Room
+from lib.caller_room import COMMIT, SANITIZED, WARNINGS, Room
+from lib.failed import Failed
 from lib.page_commands import copy_of_clone, difference, script_of
 
 # The pages whose commands are run, and how many each has at least, without those of CMake.

@@ -1,14 +1,17 @@
-"""What test_callers.py tries beside the rows: a test vector of them, captured messages, and the C of docs/CALLERS.md; and the calls that
-rows answer."""
+"""What test_callers.py tries beside the rows: a test vector of them, captured messages, and the C of docs/CALLERS.md; and what
+check_exports.py compares: the calls that rows answer, and the lists of that page."""
 from __future__ import annotations
 
 import pathlib
 import re
 
 from lib.blocks import NOT_QUOTED, blocks
+from lib.failed import Failed
 from lib.libraries import CRATES, ROWS, TOP
 
 PAGE = TOP / "docs" / "CALLERS.md"
+PLACES = [CRATES / "test_places" / "stdout", TOP / "c" / "tests" / "lengths.tsv"]
+SIGNED = TOP / "c" / "tests" / "signed.tsv"
 CAPTURED = CRATES / "test_tls13" / "src" / "tests" / "captured"
 # A test vector's names, by python/tests/vectors.py, and the row of each: its message, and what its hex begins with, except for a proposal.
 VECTOR = {
@@ -66,7 +69,9 @@ def vector() -> dict[str, str]:
     whole = [(message, digits) for message, digits, outcome, *_ in rows_of(ROWS[0]) if outcome == f"0 {len(digits) // 2} 0 0"]
     found = {}
     for name, (message, begin) in VECTOR.items():
-        digits = next(it for other, it in whole if other == message and it.startswith(begin))
+        digits = next((it for other, it in whole if other == message and it.startswith(begin)), None)
+        if digits is None:
+            raise Failed(f"no row of {message} begins with {begin!r}")
         found[name] = digits[len(begin) :] if message == "mls_proposal" else digits
     return found
 
@@ -124,6 +129,11 @@ def written_in_c() -> list[str]:
 def statuses_of(path: pathlib.Path) -> list[str]:
     """The numbers of the statuses that a page or a header has."""
     return sorted(set(re.findall(r"TLS_CODEC_\w+ = \d+", path.read_text(encoding="utf-8"))))
+
+
+def listed_archives() -> dict[str, str]:
+    """The archives that docs/CALLERS.md lists, with their headers: the first two cells of rows."""
+    return dict(re.findall(r"^\| `(libtls_codec_\w+\.a)` \| `(tls_codec/\w+\.h)` \|", PAGE.read_text(encoding="utf-8"), re.M))
 
 
 def listed_messages() -> set[str]:

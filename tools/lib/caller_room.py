@@ -6,8 +6,10 @@ import shutil
 import subprocess
 
 from lib import exported
+from lib.exports_c import MARK
+from lib.failed import Failed
 from lib.libraries import CRATES, TOP
-from lib.shared_object import SHARED, NotLinked, put_shared
+from lib.shared_object import SHARED, put_shared
 
 C = TOP / "c"
 PYTHON = TOP / "python"
@@ -17,10 +19,6 @@ SANITIZED = [*WARNINGS, "-g", "-fsanitize=address,undefined", "-fno-sanitize-rec
 ALL = exported.libraries()
 DECODERS = exported.decoders()
 COMMIT = CRATES / "tlsdump" / "stdin"
-
-
-class Failed(Exception):
-    """Why a test failed."""
 
 
 class Room:
@@ -45,12 +43,10 @@ class Room:
         return [self.archives / it for it in [*map(exported.archive_of, crates), *heap]]
 
     def shared_object(self) -> pathlib.Path:
-        """All archives in one, as `archives.py --shared` makes it."""
+        """All archives in one, as `archives.py --shared` makes it, with their mark beside it."""
         if not (self.folder / SHARED).is_file():
-            try:
-                put_shared(self.archives, self.folder)
-            except NotLinked as error:
-                raise Failed(str(error)) from error
+            put_shared(self.archives, self.folder)
+            shutil.copy(self.archives / MARK, self.folder)
         return self.folder / SHARED
 
     def program(self, source: str, crates: list[str], *more: str, compiler: str = "cc", flags: list[str] = WARNINGS) -> pathlib.Path:

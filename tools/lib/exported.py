@@ -5,9 +5,14 @@ import functools
 import re
 from dataclasses import dataclass
 
+from lib.failed import Failed
 from lib.libraries import TOP, Libraries
 
-WRITTEN = "Written by tools/exports.py"
+WRITTEN = "Written by tools/check_exports.py"
+# The most columns of a comment that is written.
+LONGEST = 100
+# A word that goes beyond them rather than begin a line: the end of a comment in C, or what would be a list or a heading in Markdown.
+STAYS = re.compile(r"\*/|[-+*>#]+|\d+[.)]")
 # The archive beside the others, for decoders: malloc and free by Rattle's names for them.
 HEAP = "libtls_codec_heap.a"
 # Archives, headers of C and modules of the Rust crate that have another name than their library: it is no main header, and a caller may use
@@ -63,10 +68,6 @@ MEANINGS = {
 }
 
 
-class Unread(Exception):
-    """The sources have something that isn't read here."""
-
-
 @dataclass
 class Export:
     """A function that a static library exports."""
@@ -81,7 +82,7 @@ class Export:
         """How the name ends, by what the call does."""
         found = next((it for it in CALLS if self.name.endswith(it)), None)
         if not found:
-            raise Unread(f"{self.name}: no call of {CALLS}")
+            raise Failed(f"{self.name} ends in none of {', '.join(CALLS)}")
         return found
 
     @property
@@ -112,9 +113,10 @@ class Export:
         words = [word for name, kind in self.parameters for word in in_c(name, kind)]
         return f"{type_in_c(self.result)} {self.name}({', '.join(words)});"
 
-    def declaration(self) -> str:
+    def declaration(self) -> list[str]:
         words = [word for name, kind in self.parameters for word in in_rust(name, kind)]
-        return f"pub fn {self.name}({', '.join(words)}) -> {self.result};"
+        line = f"pub fn {self.name}({', '.join(words)}) -> {self.result};"
+        return [line] if len(words) < 5 else [f"pub fn {self.name}(", *[f"    {it}," for it in words], f") -> {self.result};"]
 
 
 def length_of(name: str) -> str:
@@ -132,7 +134,7 @@ def in_c(name: str, kind: str) -> list[str]:
         return [f"{C[kind]} {name}"]
     if kind.removeprefix("&mut ") in (*C, *structs()):
         return [f"{type_in_c(kind.removeprefix('&mut '))} *{name}"]
-    raise Unread(f"{name}: {kind}")
+    raise Failed(f"{name}: {kind} is no type of a parameter")
 
 
 def in_rust(name: str, kind: str) -> list[str]:
@@ -142,7 +144,7 @@ def in_rust(name: str, kind: str) -> list[str]:
         return [f"{name}: *{'const' if kind == '&[u8]' else 'mut'} u8", f"{length_of(name)}: usize"]
     if kind.removeprefix("&mut ") in (*C, *structs()):
         return [f"{name}: {kind}"]
-    raise Unread(f"{name}: {kind}")
+    raise Failed(f"{name}: {kind} is no type of a parameter")
 
 
 @dataclass
@@ -164,8 +166,15 @@ def structs() -> dict[str, Struct]:
                 found[name] = Struct(words_of(text), crate, fields)
     texts = " ".join(text for it in found.values() for text, _, _ in it.fields)
     if unused := [it for it in INSIDE if it + INSIDE[it] not in texts]:
-        raise Unread(f"no field is {unused}")
+        raise Failed(f"no field is {unused}")
     return found
+
+
+def struct_of(kind: str) -> Struct:
+    """The struct of this name."""
+    if kind not in structs():
+        raise Failed(f"{kind}: no struct of {', '.join(STRUCTS)}")
+    return structs()[kind]
 
 
 def described(text: str) -> str:
@@ -179,8 +188,19 @@ def type_in_c(kind: str) -> str:
     if kind in C:
         return C[kind]
     name = re.sub(r"(?<=[a-z])(?=[A-Z])|(?<=[A-Z])(?=[A-Z][a-z])", "_", kind).lower()
-    prefix = STRUCTS[structs()[kind].crate]
+    prefix = STRUCTS[struct_of(kind).crate]
     return name if name.startswith(prefix) else f"{prefix}_{name}"
+
+
+def filled(text: str, first: str, other: str) -> list[str]:
+    """The lines of a comment, which aren't too long: the first begins with `first`, and each other with `other`."""
+    lines, line = [], first
+    for word in text.split():
+        if len(line) + len(word) >= LONGEST and not STAYS.fullmatch(word):
+            lines.append(line)
+            line = other
+        line += f" {word}"
+    return [*lines, line]
 
 
 def words_of(text: str) -> str:
@@ -210,6 +230,11 @@ def module_of(crate: str) -> str:
     return MODULES.get(name, name)
 
 
+def validators() -> list[str]:
+    """The others."""
+    return [it for it in libraries() if it not in decoders()]
+
+
 def archive_of(crate: str) -> str:
     """The file of its archive."""
     return f"libtls_codec_{module_of(crate)}.a"
@@ -223,10 +248,10 @@ def exports_of(crate: str) -> list[Export]:
     text = "\n".join(it.read_text(encoding="utf-8") for it in sorted((TOP / "crates" / crate / "src").glob("*.rt")))
     found = []
     for comment, name, inside, result in EXPORT.findall(text):
-        pairs = [tuple(it.strip().split(": ", 1)) for it in inside.split(",") if it.strip()]
-        found.append(Export(name, words_of(comment), pairs, result))
+        pairs = [it.strip().partition(": ") for it in inside.split(",") if it.strip()]
+        found.append(Export(name, words_of(comment), [(it, kind) for it, _, kind in pairs], result))
     if len(found) != text.count("no_mangle"):
-        raise Unread(f"{crate}: {text.count('no_mangle')} exports, of which {len(found)} are read")
+        raise Failed(f"{crate}: {text.count('no_mangle')} exports, of which {len(found)} are read")
     return found
 
 
@@ -240,10 +265,12 @@ def numbers() -> list[tuple[str, bool, int]]:
     """The errors' names, whether they have a value, and their numbers."""
     found = [(name, bool(value), int(number)) for name, value, number in NUMBER.findall(source_of("tls_codec_outcome", "numbers.rt"))]
     if [number for _, _, number in found] != list(range(1, 11)) or {name for name, _, _ in found} - set(MEANINGS):
-        raise Unread(f"the numbers of the errors are {found}")
+        raise Failed(f"the numbers of the errors are {found}")
     return found
 
 
 def taken_by(export: Export) -> str:
     """The struct that a function fills."""
+    if len(export.parameters) < 2:
+        raise Failed(f"{export.name}: nothing to fill after the bytes")
     return export.parameters[1][1].removeprefix("&mut ")

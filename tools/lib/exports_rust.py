@@ -1,8 +1,13 @@
-"""rust/src/exports.rs: what the Rust crate declares of the static libraries, and the functions over it. exports.py writes it."""
+"""rust/src/exports.rs: what the Rust crate declares of the static libraries, and the functions over it; and the list of them for its tests,
+rust/tests/common/exports.rs. check_exports.py writes both."""
 from __future__ import annotations
 
-from lib.exported import CALLS, MEANINGS, WRITTEN, Export, Unread
-from lib.exported import about, archive_of, decoders, exports_of, libraries, module_of, named_as_in_the_rfc, numbers, structs, taken_by
+import re
+
+from lib.exported import CALLS, MEANINGS, WRITTEN, Export
+from lib.exported import about, archive_of, decoders, exports_of, filled, libraries, module_of, named_as_in_the_rfc, numbers, struct_of
+from lib.exported import taken_by, validators
+from lib.failed import Failed
 from lib.registries import enums_in_rust
 
 SAFE = "the pointer and the length are of one slice, nothing changes it during the call, and the call keeps no pointer."
@@ -21,6 +26,16 @@ REWORDED = {
 }
 # Words of Rust that fields have as names.
 KEYWORDS = {"type"}
+# A line that is a comment alone: its beginning, and the text.
+COMMENT = re.compile(r"( *//[/!]?) (.*)")
+# What the macros for tests pass on, by their names.
+EACH = {
+    "message": "message: its name in C, the two functions of its validator, and the two of its decoder",
+    "located": "call that finds fields: its name in C, its function, and its struct's fields in order",
+    "content": "call that finds the content after a length: its name in C, and its function",
+    "list": "call that finds an element: its name in C, and the function of a list's iterator",
+}
+BREAK = ",\n" + 16 * " "
 # How many bytes an encoder writes beside its parts: of a FramedContentTBS the version and the wire format.
 BESIDE = {"mls_framed_content_tbs_encode": 4}
 
@@ -30,6 +45,17 @@ def linked(crate: str) -> str:
     return archive_of(crate).removeprefix("lib").removesuffix(".a")
 
 
+def short(crate: str, export: Export) -> str:
+    """What a call is of, as functions of its module are named."""
+    return export.subject.removeprefix(f"{crate.removesuffix('_c').removesuffix('_check')}_")
+
+
+def wrapped(lines: list[str]) -> str:
+    """These lines, with comments in lines that aren't too long."""
+    found = [(line, COMMENT.fullmatch(line)) for line in lines]
+    return "\n".join(it for line, text in found for it in (filled(text[2], text[1], text[1]) if text else [line]))
+
+
 def field_in_rust(field: str) -> str:
     """A field's name in Rust, as the RFC has it."""
     name = named_as_in_the_rfc(field)
@@ -37,8 +63,8 @@ def field_in_rust(field: str) -> str:
 
 
 def struct_in_rust(kind: str) -> list[str]:
-    lines = [f"/// {structs()[kind].text}", "#[repr(C)]", "#[derive(Clone, Copy, Default)]", f"pub struct {kind} {{"]
-    return [*lines, *[f"    pub {field_in_rust(name)}: {field}," for _, name, field in structs()[kind].fields], "}"]
+    lines = [f"/// {struct_of(kind).text}", "#[repr(C)]", "#[derive(Clone, Copy, Default)]", f"pub struct {kind} {{"]
+    return [*lines, *[f"    pub {field_in_rust(name)}: {field}," for _, name, field in struct_of(kind).fields], "}"]
 
 
 def found_in_rust(export: Export, name: str, text: str, kinds: tuple[str, str, str]) -> list[str]:
@@ -68,12 +94,12 @@ def elements_in_rust(export: Export, name: str) -> list[str]:
     return [*lines, "    }"]
 
 
-def located_in_rust(module: str, export: Export) -> list[str]:
+def located_in_rust(crate: str, export: Export) -> list[str]:
     """A struct of slices, and the function that finds them."""
-    kind, name = taken_by(export), f"locate_{export.subject.removeprefix(f'{module}_')}"
+    kind, name = taken_by(export), f"locate_{short(crate, export)}"
     if kind == "Span":
         return content_in_rust(export, name)
-    it = structs()[kind]
+    it = struct_of(kind)
     lines = ["", f"    /// {it.text}", "    #[derive(Clone, Copy, PartialEq, Eq, Debug)]", f"    pub struct {kind}<'a> {{"]
     for text, field, _ in it.fields:
         lines += [f"        /// {text}", f"        pub {field_in_rust(field)}: &'a [u8],"]
@@ -91,7 +117,7 @@ def reworded(export: Export) -> str:
     """The text of an encoder, as a caller in Rust reads it."""
     found = [it for it in REWORDED if export.text.endswith(it)]
     if not found:
-        raise Unread(f"{export.name}: its text ends in other words")
+        raise Failed(f"{export.name}: its text ends in other words")
     return export.text.removesuffix(found[0]) + REWORDED[found[0]]
 
 
@@ -104,9 +130,10 @@ def encoder_in_rust(export: Export, name: str) -> list[str]:
     parameters = ", ".join(f"{it}: {kind}" for it, kind in export.parameters).replace("&mut [u8]", "&'a mut [u8]")
     lines = ["", f"    /// {reworded(export)}", f"    pub fn {name}<'a>({parameters}) -> Result<&'a [u8], Rejected> {{"]
     lines += [f"        // SAFETY: {SAFE_TO_WRITE}"]
-    lines += [f"        let outcome = unsafe {{ foreign::{export.name}({', '.join(passed)}) }};"]
+    lines += ["        let outcome = unsafe {", f"            foreign::{export.name}("]
+    lines += [*[f"                {it}," for it in passed], "            )", "        };"]
     if export.name not in BESIDE:
-        raise Unread(f"{export.name}: how many bytes it writes beside its parts")
+        raise Failed(f"{export.name}: how many bytes it writes beside its parts")
     sizes = [str(BESIDE[export.name]), *[f"{it}.len()" for it in taken if kinds[it] == "&[u8]"]]
     return [*lines, f"        written_as(out, {' + '.join(sizes)}, outcome)", "    }"]
 
@@ -127,13 +154,12 @@ def decoders_in_rust(crate: str) -> list[str]:
     name, exports = crate.removesuffix("_c"), exports_of(crate)
     text = about(crate).removesuffix(": `at` is 0.")
     if text == about(crate):
-        raise Unread(f"{crate}: its text ends in other words")
+        raise Failed(f"{crate}: its text ends in other words")
     body = ["", f"/// {text}.", '#[cfg(feature = "check")]', f"pub mod {name} {{", "    use crate::{Error, split, whole};", ""]
     body += ["    mod foreign {", "        use crate::Outcome;", "", f'        #[link(name = "{linked(crate)}", kind = "static")]']
-    body += ['        unsafe extern "C" {', *[f"            {it.declaration()}" for it in exports], "        }", "    }"]
+    body += ['        unsafe extern "C" {', *[f"            {line}" for it in exports for line in it.declaration()], "        }", "    }"]
     for it in exports:
-        short = it.subject.removeprefix(f"{name.removesuffix('_check')}_")
-        body += asked_in_rust(it, f"decode_check_{short}", "Error", (", by the decoder", ".map_err(|it| it.error)"))
+        body += asked_in_rust(it, f"decode_check_{short(crate, it)}", "Error", (", by the decoder", ".map_err(|it| it.error)"))
     return [*body, "}"]
 
 
@@ -144,7 +170,7 @@ def module_in_rust(crate: str) -> list[str]:
     located, lists, encoders = by_call["_locate"], by_call["_next"], by_call["_encode"]
     taken = dict.fromkeys(taken_by(it) for it in located if taken_by(it) != "Span")
     if by_call["_decode_check"]:
-        raise Unread(f"{crate}: an export of no kind that Rust has a function for")
+        raise Failed(f"{crate}: an export of no kind that Rust has a function for")
     used = ["Rejected", "split", *(["split_as"] if located else []), "whole"]
     if len(taken) < len(located) and not taken:
         used.insert(1, "Span")
@@ -158,18 +184,18 @@ def module_in_rust(crate: str) -> list[str]:
     for it in taken:
         body += [f"        {line}" for line in struct_in_rust(it)] + [""]
     body += [f'        #[link(name = "{linked(crate)}", kind = "static")]', '        unsafe extern "C" {']
-    body += [f"            {it.declaration()}" for it in exports]
+    body += [f"            {line}" for it in exports for line in it.declaration()]
     body += ["        }", "    }", *enums_in_rust(name)]
     for it in by_call["_validate_prefix"]:
-        body += asked_in_rust(it, f"validate_{it.subject.removeprefix(f'{name}_')}", "Rejected", ("", ""))
+        body += asked_in_rust(it, f"validate_{short(crate, it)}", "Rejected", ("", ""))
     for it in located:
-        body += located_in_rust(name, it)
+        body += located_in_rust(crate, it)
     for it in by_call["_wire_format"]:
         body += number_in_rust(it, it.name.removeprefix(f"{name}_"))
     for it in encoders:
-        body += encoder_in_rust(it, it.subject.removeprefix(f"{name}_"))
+        body += encoder_in_rust(it, short(crate, it))
     for it in lists:
-        body += elements_in_rust(it, it.subject.removeprefix(f"{name}_"))
+        body += elements_in_rust(it, short(crate, it))
     return [*body, "}"]
 
 
@@ -189,4 +215,29 @@ def exports_rust() -> str:
     body += ["", *struct_in_rust("Span")]
     for crate in libraries():
         body += decoders_in_rust(crate) if crate in decoders() else module_in_rust(crate)
-    return "\n".join([*body, ""])
+    return wrapped([*body, ""])
+
+
+def each(name: str, lines: list[str]) -> list[str]:
+    """A macro that passes lines to another one."""
+    head = ["", f"/// Passes to a macro each {EACH[name]}.", "#[allow(unused_macros)]", f"macro_rules! each_{name} {{"]
+    return [*head, "    ($to:ident) => {", "        $to! {", *[f"            {it};" for it in lines], "        }", "    };", "}"]
+
+
+def tests_rust() -> str:
+    """The list for tests in Rust, as exports.inc is one for those in C."""
+    decode = {it.subject: f"{module_of(crate)}::decode_check_{short(crate, it)}" for crate in decoders() for it in exports_of(crate)}
+    lines: dict[str, list[str]] = {name: [] for name in EACH}
+    for crate, it in ((crate, it) for crate in validators() for it in exports_of(crate)):
+        module, name = module_of(crate), short(crate, it)
+        if it.call == "_validate_prefix" and it.subject in decode:
+            calls = [f"{call}, {call}_prefix" for call in (f"{module}::validate_{name}", decode[it.subject])]
+            lines["message"].append(f'"{it.subject}": {BREAK.join(calls)}')
+        elif it.call == "_locate" and taken_by(it) == "Span":
+            lines["content"].append(f'"{it.name}": {module}::locate_{name}')
+        elif it.call == "_locate":
+            fields = " ".join(field_in_rust(field) for _, field, _ in struct_of(taken_by(it)).fields)
+            lines["located"].append(f'"{it.name}": {module}::locate_{name}{BREAK}{fields}')
+        elif it.call == "_next":
+            lines["list"].append(f'"{it.name}": {module}::{name}_elements')
+    return wrapped([f"//! {WRITTEN}. Don't edit.", *[line for name in EACH for line in each(name, lines[name])], ""])

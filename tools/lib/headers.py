@@ -1,4 +1,4 @@
-"""What exports.py writes into the headers of C beside the declarations."""
+"""What the headers of C have beside the declarations. exports_c.py puts it into them."""
 from __future__ import annotations
 
 # At the top of outcome.h.
@@ -79,19 +79,3 @@ static inline uint64_t tls_codec_varint_value(const uint8_t *bytes) {
   default: return tls_codec_u64(bytes) & 0x3fffffffffffffff;
   }
 }""".split("\n")
-
-# all.h.
-UMBRELLA = """\
-/* Written by tools/exports.py. Don't edit. */
-#ifndef TLS_CODEC_ALL_H
-#define TLS_CODEC_ALL_H
-
-/* The headers of the archives that don't allocate. Link those whose calls you use:
-   libtls_codec_mls.a, libtls_codec_tls13.a and libtls_codec_lengths.a. */
-
-#include "lengths.h"
-#include "mls.h"
-#include "tls13.h"
-
-#endif
-"""

@@ -2,7 +2,9 @@
 from __future__ import annotations
 
 import re
+from typing import Any
 
+from lib.failed import Failed
 from lib.libraries import CRATES
 from lib.presentation import Parser, name_of
 
@@ -49,12 +51,21 @@ TEXTS = {"mls": ["mls", "mls_tree", "mls_group"]}
 UNUSED = re.compile(r"reserved|RESERVED|invalid|.*_RESERVED")
 
 
+def read(file: str) -> list[tuple[Any, ...]]:
+    """The definitions of a text, or the notes of a file of notes."""
+    parser = Parser((DATA / file).read_text(encoding="utf-8"))
+    try:
+        return parser.notes() if file.endswith(".notes") else parser.all()
+    except SystemExit as error:
+        raise Failed(f"{file}: {error}") from None
+
+
 def numbers(text: str, enum: str) -> dict[str, int]:
     """The numbers of an enum by their names, without ranges, or of a registry as the notes have them."""
-    for it in Parser((DATA / f"{text}.tls").read_text(encoding="utf-8")).all():
+    for it in read(f"{text}.tls"):
         if it[0] == "enum" and name_of(it) == enum:
             return {value[0]: value[1] for value in it[2] if value[0] and len(value) == 2 and not UNUSED.fullmatch(value[0])}
-    pairs = [it[1:] for it in Parser((DATA / f"{text}.notes").read_text(encoding="utf-8")).notes() if it[0] == "Equals"]
+    pairs = [it[1:] for it in read(f"{text}.notes") if it[0] == "Equals"]
     return {path.removeprefix(f"{enum}."): number for path, number in pairs if path.startswith(f"{enum}.")}
 
 
@@ -63,7 +74,7 @@ def named_in_the_rfc(library: str, enum: str) -> dict[str, int]:
     texts = [found for text in TEXTS.get(library, [library]) if (found := numbers(text, enum))]
     texts += [LISTED[library, enum]] if (library, enum) in LISTED else []
     if len(texts) != 1:
-        raise LookupError(f"{len(texts)} texts of {library} have numbers of {enum}")
+        raise Failed(f"{len(texts)} texts of {library} have numbers of {enum}")
     return texts[0]
 
 

@@ -5,12 +5,9 @@ import pathlib
 import subprocess
 
 from lib.exported import HEAP, archive_of, libraries
+from lib.failed import Failed
 
 SHARED = "libtls_codec.so"
-
-
-class NotLinked(Exception):
-    """What the C compiler prints, where it links nothing."""
 
 
 def put_shared(archives: pathlib.Path, folder: pathlib.Path) -> pathlib.Path:
@@ -19,5 +16,5 @@ def put_shared(archives: pathlib.Path, folder: pathlib.Path) -> pathlib.Path:
     words = ["cc", "-shared", "-o", str(shared), "-Wl,--whole-archive", *linked, "-Wl,--no-whole-archive"]
     output = subprocess.run(words, stdin=subprocess.DEVNULL, stdout=subprocess.PIPE, stderr=subprocess.STDOUT, text=True, errors="replace")
     if output.returncode:
-        raise NotLinked(f"{SHARED}: {output.stdout[-3000:]}")
+        raise Failed(f"{SHARED}: {output.stdout[-3000:]}")
     return shared

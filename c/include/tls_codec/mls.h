@@ -1,4 +1,4 @@
-/* Written by tools/exports.py from crates/mls_c/src. Don't edit. */
+/* Written by tools/check_exports.py from crates/mls_c/src. Don't edit. */
 #ifndef TLS_CODEC_MLS_H
 #define TLS_CODEC_MLS_H
 

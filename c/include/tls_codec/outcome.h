@@ -1,4 +1,4 @@
-/* Written by tools/exports.py from crates/tls_codec_outcome/src. Don't edit. */
+/* Written by tools/check_exports.py from crates/tls_codec_outcome/src. Don't edit. */
 #ifndef TLS_CODEC_OUTCOME_H
 #define TLS_CODEC_OUTCOME_H
 
@@ -22,7 +22,7 @@
 #define TLS_CODEC_VERSION "0.2.0"
 
 /* The line that `tls_codec.version` beside archives of just these headers has. */
-#define TLS_CODEC_HEADERS "0.2.0 2b9807c85a4ec5fa"
+#define TLS_CODEC_HEADERS "0.2.0 db2eeefa5796f45a"
 
 /* A call's status. The numbers don't change. */
 enum tls_codec_status {

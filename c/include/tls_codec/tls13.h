@@ -1,4 +1,4 @@
-/* Written by tools/exports.py from crates/tls13_c/src. Don't edit. */
+/* Written by tools/check_exports.py from crates/tls13_c/src. Don't edit. */
 #ifndef TLS_CODEC_TLS13_H
 #define TLS_CODEC_TLS13_H
 

@@ -1,4 +1,8 @@
-//! What a row's columns stand for.
+//! What a row's columns stand for, and the list of the calls.
+#[rustfmt::skip]
+#[macro_use]
+mod exports;
+
 use tls_codec_validators::Error;
 
 pub fn bytes_of(digits: &str) -> Vec<u8> {
