@@ -2,6 +2,7 @@
 
 All files are UTF-8. .ci/run and quick set PYTHONUTF8; without it Python reads files so in the locale C, and in each one of UTF-8.
 
+- All scripts: failed (what they end with if they can't go on).
 - The repository and what is built of it: libraries (folders, crates), cases (`rt try --cases`), generated (runs of `tlsgen`), edits and
   verdicts (wrong bodies).
 - Readers that share no code with the crates: presentation and message_reader (texts of RFCs), row_reader (types), outcome_reader

@@ -6,6 +6,7 @@ import shutil
 import subprocess
 
 from lib import exported
+from lib.failed import Failed
 from lib.libraries import CRATES, TOP
 from lib.shared_object import SHARED, NotLinked, put_shared
 
@@ -17,10 +18,6 @@ SANITIZED = [*WARNINGS, "-g", "-fsanitize=address,undefined", "-fno-sanitize-rec
 ALL = exported.libraries()
 DECODERS = exported.decoders()
 COMMIT = CRATES / "tlsdump" / "stdin"
-
-
-class Failed(Exception):
-    """Why a test failed."""
 
 
 class Room:
