@@ -82,7 +82,7 @@ def status_in(path: pathlib.Path) -> int:
 
 
 def runs_in(folder: pathlib.Path, *parts: str) -> dict[str, int]:
-    """The runs in a folder, of which each has these files, with the exit statuses."""
+    """The runs in a folder with their exit statuses. Each has to have these files."""
     names = sorted({path.stem for path in folder.iterdir()})
     lacking = [f"{name}{part}" for name in names for part in parts if not (folder / f"{name}{part}").is_file()]
     if lacking:

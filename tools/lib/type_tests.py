@@ -90,7 +90,7 @@ def tests() -> Tests:
 # ---- types
 
 def parts(inside: str) -> list[str]:
-    """What commas part, but for those between brackets."""
+    """What commas part, without those between brackets."""
     found, depth = [""], 0
     for sign in inside:
         depth += {"<": 1, "(": 1, "[": 1, ">": -1, ")": -1, "]": -1}.get(sign, 0)
@@ -102,7 +102,7 @@ def parts(inside: str) -> list[str]:
 
 
 def shape(of: str) -> str:
-    """A type without what it is of, but for a length with bounds: `Option`, `(T, U)`, `&VLBytes`, `TlsVec<Within>`."""
+    """A type without what it is of, except a length with bounds: `Option`, `(T, U)`, `&VLBytes`, `TlsVec<Within>`."""
     of = re.sub(r"'\w+,? *", "", of).strip()
     if of.startswith("&"):
         return "&" + shape(of[1:])
