@@ -1,5 +1,5 @@
-/* rows FILE: what the validator and the decoder say of each row of test_outcome or tls13.tsv, and where the fields are. Then each bit is turned
- * in its turn, and the two are compared.
+/* rows FILE: what the validator and the decoder say of each row of test_outcome or tls13.tsv, and where the fields are. Then each bit is
+ * turned in its turn, and the two are compared.
  *
  * A row has a message's name, hex or `-`, what the validator is to say (`STATUS TAKEN AT DETAIL`); of test_outcome what the decoder is to
  * say, and of some accepted messages where their fields are. */
@@ -22,13 +22,13 @@ struct located {
 /* Calls the message's `locate`, over a struct whose bytes are all 0xa5. No spans: it has none. */
 static struct located locate(const char *name, const uint8_t *bytes, size_t length) {
   struct located found = {{0, 0, 0, 0}, 0, {{0, 0}}};
-#define LOCATED(message, fields)                                       \
-  if (strcmp(name, #message) == 0) {                                   \
-    fields it;                                                         \
-    memset(&it, 0xa5, sizeof it);                                      \
-    found.outcome = message##_locate(bytes, length, &it);                 \
-    found.count = sizeof it / sizeof(tls_codec_span);                  \
-    memcpy(found.spans, &it, sizeof it);                               \
+#define LOCATED(message, fields)                          \
+  if (strcmp(name, #message) == 0) {                      \
+    fields it;                                            \
+    memset(&it, 0xa5, sizeof it);                         \
+    found.outcome = message##_locate(bytes, length, &it); \
+    found.count = sizeof it / sizeof(tls_codec_span);     \
+    memcpy(found.spans, &it, sizeof it);                  \
   }
 #include "exports.inc"
 #undef LOCATED

@@ -75,8 +75,8 @@ pub fn number(field: &[u8]) -> Option<u64> {
     (field.len() <= 8).then(|| field.iter().fold(0, |value, byte| value << 8 | u64::from(*byte)))
 }
 
-/// The value of a variable-length integer, as [`lengths::validate_varint_prefix`] returns one; `None` if the width that it begins with isn't that of the
-/// slice.
+/// The value of a variable-length integer, as [`lengths::validate_varint_prefix`] returns one; `None` if the width that it begins
+/// with isn't that of the slice.
 ///
 /// ```
 /// assert_eq!(tls_codec_validators::varint_value(&[0x7b, 0xbd]), Some(15_293));

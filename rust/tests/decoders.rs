@@ -53,7 +53,8 @@ const MESSAGES: &[Message] = messages! {
         handshake: validate_handshake_prefix decode_check_handshake_prefix decode_check_handshake;
         client_hello: validate_client_hello_prefix decode_check_client_hello_prefix decode_check_client_hello;
         server_hello: validate_server_hello_prefix decode_check_server_hello_prefix decode_check_server_hello;
-        encrypted_extensions: validate_encrypted_extensions_prefix decode_check_encrypted_extensions_prefix decode_check_encrypted_extensions;
+        encrypted_extensions: validate_encrypted_extensions_prefix
+            decode_check_encrypted_extensions_prefix decode_check_encrypted_extensions;
         certificate_request: validate_certificate_request_prefix decode_check_certificate_request_prefix decode_check_certificate_request;
         certificate: validate_certificate_prefix decode_check_certificate_prefix decode_check_certificate;
         certificate_verify: validate_certificate_verify_prefix decode_check_certificate_verify_prefix decode_check_certificate_verify;
