@@ -10,5 +10,5 @@ All files are UTF-8. .ci/run and quick set PYTHONUTF8; without it Python reads f
   (messages), shown (numbers, dates), dump_input (inputs of `tlsdump`), rejections (those that it rejects).
 - Callers: exported and registries (what is exported), headers and exports_rust (what exports.py writes), shared_object; caller_* is of
   test_callers.py.
-- Pages: blocks, page_commands, figures. The folder laws/ is of write_laws.py.
+- Pages: blocks, page_commands, figures, arrows (of a picture). The folder laws/ is of write_laws.py.
 """
