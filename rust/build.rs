@@ -1,4 +1,5 @@
-//! Finds the archives: in the folder that `TLS_CODEC_ARCHIVES` names, or in `c/out` of this repository. They have to be of the same headers.
+//! Finds the archives: in the folder that `TLS_CODEC_ARCHIVES` names, or in `c/out` of this repository. They have to be of the
+//! same headers.
 use std::path::PathBuf;
 use std::{env, fs, process};
 

@@ -13,6 +13,7 @@ import re
 import sys
 from collections.abc import Iterator
 
+from lib.failed import Failed, ended
 from lib.libraries import CRATES, DATA, TEXTS, Libraries
 from write_laws import differences
 
@@ -185,7 +186,8 @@ def selftest() -> Iterator[str]:
     says, laws = laws_of(crate)
 
     def turned(text: str, old: str, new: str) -> str:
-        assert old in text, f"{crate}_laws has no {old}, which the selftest changes"
+        if old not in text:
+            raise Failed(f"{crate}_laws has no {old}, which the selftest changes")
         return text.replace(old, new)
 
     planted = {
@@ -215,4 +217,4 @@ def main() -> int:
 
 
 if __name__ == "__main__":
-    sys.exit(main())
+    sys.exit(ended(main))

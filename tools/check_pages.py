@@ -10,7 +10,8 @@
   names of what was before, in CHANGELOG.md, and a few of elsewhere don't.
 - No line is one that a merge left.
 - No word is one of the dialect (tools/dialect.py). The pages are short, and their reading lists closed (tools/page_limits.py).
-- The pictures are what tools/pictures.py draws. No module of tools/lib imports a script of tools/.
+- The pictures are what tools/pictures.py draws, and the arrows between all crates those of crates.txt. No module of tools/lib imports a
+  script of tools/.
 
 Before that it tries its checks on lines with one fault each. Prints a line for each place that doesn't match, and last 'N passed, N
 failed', which counts pages and pictures, and as one each these lines, the words of all sources, the imports, and what tools/page_limits.py
@@ -155,6 +156,20 @@ def scripts_imported(modules: dict[str, str]) -> list[tuple[str, str]]:
     return [(name, script) for name, text in modules.items() for script in imported.findall(text)]
 
 
+def planted_arrows() -> dict[str, list[str]]:
+    """What is found of the picture of all crates without one of its lines (the least), with an arrow turned, and with other uses."""
+    p, wanted = pictures.crates(False), pictures.used()
+    (_, above, _, below), pair = p.lines[0], min(wanted)
+    turned = [(x1, above + below - y1, x2, above + below - y2) for x1, y1, x2, y2 in p.lines[:3]]
+    fewer = [pictures.wrong_arrows(p.lines[:at] + p.lines[at + 1 :], p.boxes, wanted) for at in range(len(p.lines))]
+    return {
+        "a line of an arrow": min(fewer, key=len),
+        "an arrow that is turned": pictures.wrong_arrows(turned + p.lines[3:], p.boxes, wanted),
+        "an arrow for nothing": pictures.wrong_arrows(p.lines, p.boxes, wanted - {pair}),
+        "a use without an arrow": pictures.wrong_arrows(p.lines, p.boxes, wanted | {pair[::-1]}),
+    }
+
+
 def selftest() -> list[str]:
     """The planted faults that aren't found, and what is found in lines that have none."""
     head, clause, other = "pub fn half(x: u8) -> u8", "requires even { x }", "ensures half { x }"
@@ -175,6 +190,7 @@ def selftest() -> list[str]:
         "a word of the dialect": dialect.words_in("It stands there."),
         "a script in a module": scripts_imported({"one.py": "import re\n    import dialect\n"}),
         "a name of a script": scripts_imported({"one.py": "from dialect import words_in\n"}),
+        **planted_arrows(),
     }
     names = check_names(["`one_name` of `tools/check_pages.py`"], {"one_name"})
     sound = [*quote(head, clause, other, "{"), *check_links(page, ["[one](docs/MAP.md)"]), *names]
@@ -217,6 +233,10 @@ def main() -> int:
         if (TOP / "docs" / name).read_text() != draw(False).svg():
             print(f"docs/{name}: not as tools/pictures.py draws it")
             failed.add(name)
+    drawn = pictures.crates(False)
+    for text in pictures.wrong_arrows(drawn.lines, drawn.boxes, pictures.used()):
+        print(f"docs/crates.svg: {text}")
+        failed.add("crates.svg")
     read = len(pages) + len(pictures.PICTURES) + 4
     compared = f"{len(pages)} pages and {len(pictures.PICTURES)} pictures were compared with the crates"
     print(f"{compared}, and the words of {len(commented)} sources read")

@@ -18,6 +18,7 @@ from typing import NamedTuple
 
 import compare_rfc
 from compare_rfc import TEXTS
+from lib.failed import Failed, ended
 from lib.libraries import CRATES, DATA
 from lib.presentation import Parser
 
@@ -133,7 +134,8 @@ def made(rfc: str, change: Change | None) -> str:
     """An RFC that has all that our texts of it have, with a change if it is one of this RFC."""
     text = "\n".join((DATA / f"{name}.tls").read_text() for name in RFCS[rfc])
     if change and change.rfc == rfc:
-        assert text.count(change.old) == 1, f"not once in our texts of RFC {rfc}: {change.old}"
+        if text.count(change.old) != 1:
+            raise Failed(f"not once in our texts of RFC {rfc}: {change.old}")
         text = text.replace(change.old, change.new)
     text = COMMENT.sub(OTHER_COMMENT, text)
     lines = ["Engineering Task Force", f"Request for Comments: {rfc}", "", PROSE, "", *text.split("\n"), "", PROSE]
@@ -183,4 +185,4 @@ def main() -> int:
 
 
 if __name__ == "__main__":
-    sys.exit(main())
+    sys.exit(ended(main))

@@ -13,6 +13,7 @@ import sys
 from typing import Any
 
 from lib.dump_input import bytes_of, named, words_of
+from lib.failed import Failed, ended
 from lib.libraries import CRATES
 from lib.message_reader import PROTOCOLS, Line, Reader, Rejected, Text
 from lib.presentation import Parser, name_of
@@ -134,7 +135,8 @@ def listed() -> str:
     out, left_out = "", set().union(*NOT_SHOWN.values())
     structs = {protocol: structs_of(protocol) for protocol in ("mls", "tls", "ct")}
     unknown = left_out.difference(*structs.values())
-    assert not unknown, f"NOT_SHOWN has what no text has: {unknown}"
+    if unknown:
+        raise Failed(f"NOT_SHOWN has what no text has: {', '.join(sorted(unknown))}")
     for protocol, all_names in structs.items():
         names = all_names - left_out
         for text in PROTOCOLS[protocol] if protocol != "tls" else ["tls13"]:
@@ -150,7 +152,8 @@ def listed() -> str:
                     if name in names:
                         names.remove(name)
                         out += f"{protocol}.{name} ({rfc}, {section})\n"
-        assert not names, names
+        if names:
+            raise Failed(f"no definition is found in the texts of {protocol} for {', '.join(sorted(names))}")
     return out
 
 
@@ -201,4 +204,4 @@ def main() -> int:
 
 
 if __name__ == "__main__":
-    sys.exit(main())
+    sys.exit(ended(main))

@@ -9,7 +9,10 @@ from a slice, and each of `tls_codec_cases`, is validated by an impl in `tls_cod
 Each has a row in docs/API.md, with its crate and its traits, and so have the types of std that `tls_codec_base` gives them to;
 each name there is such a type's. What it stands for and its format there are in words of its lines of `Means`, or in short ones
 (SHORT_FOR). Each variant of `Error` is among the words for contracts, and each line that exports names can be read. No type that generated
-code imports may be the name of one in a text. Before that each check is tried on a type that lacks something. Prints what is missing; the last line is 'N passed, N failed', a type each.
+code imports may be the name of one in a text.
+
+Each type in `types.rt` has its tests (lib/type_tests.py), and each row of crates/test_values its answer. Before that each check is tried on
+a type that lacks something. Prints what is missing; the last line is 'N passed, N failed', a type or a row each.
 """
 from __future__ import annotations
 
@@ -18,6 +21,7 @@ import sys
 from collections.abc import Iterable, Iterator
 from typing import NamedTuple
 
+from lib import type_tests
 from lib.libraries import CRATES, TOP
 
 TABLE = CRATES / "tls_codec/src"
@@ -109,8 +113,6 @@ class Row(NamedTuple):
     format: str = ""
 
 
-
-
 def rows() -> list[Row]:
     """Each row of the table of types in docs/API.md; one without six cells has no names."""
     found = []
@@ -189,7 +191,7 @@ def errors_lacking(words: str) -> Iterator[str]:
 
 
 def not_reserved(words: str) -> Iterator[str]:
-    """The types that generated code imports (vocabulary.rt of tlsgen_emit), and that a type of a text may be called by this text of words.rt."""
+    """The types that generated code imports (vocabulary.rt of tlsgen_emit), and that this text of words.rt lets a text's type be called."""
     reserved = set(re.findall(r'"(\w+)"', words))
     for name in re.findall(r'"([A-Z]\w*)"', (CRATES / "tlsgen_emit/src/vocabulary.rt").read_text()):
         if name not in reserved:
@@ -226,6 +228,16 @@ def report(lacks: Iterable[str]) -> bool:
     return not lines
 
 
+def tested(crates: set[str]) -> Iterator[bool]:
+    """Whether planted faults are found; whether each type in types.rt has its tests, and each row of crates/test_values its answer."""
+    given, tried = type_tests.library(crates), type_tests.tests()
+    without = type_tests.exceptions(type_tests.WITHOUT.read_text(encoding="utf-8"))
+    yield report(f"selftest: not found: {fault}" for fault in type_tests.unseen(given, tried, without))
+    types, rows = type_tests.lacking(given, tried, without), type_tests.wrong_rows(tried)
+    yield from map(report, [*types.values(), *rows])
+    print(f"the tests of {len(types) - 1} types, and {len(rows) - 1} rows of test_values, were read")
+
+
 def main() -> int:
     types, contexts, equality = ((TABLE / page).read_text() for page in ("types.rt", "contexts.rt", "equality.rt"))
     types += contexts
@@ -235,7 +247,8 @@ def main() -> int:
     page, decided = rows(), PAGE.read_text().split("\n## In a context\n")[1].split("\n## ")[0]
     types_of, means = set(with_format(by_crate)), meanings(types)
     words = (CRATES / "tlsgen_model/src/words.rt").read_text()
-    results = [report(selftest(types, equality, page)), report(not_reserved(words)), *(report([*without_type(row, types_of), *unlike(row, means)]) for row in page)]
+    results = [report(selftest(types, equality, page)), report(not_reserved(words)), *tested(set(by_crate))]
+    results += [report([*without_type(row, types_of), *unlike(row, means)]) for row in page]
     for crate, name in names:
         # (an impl for a type of wire is in base)
         traits = by_crate[crate].get(name, set()) | by_crate["tls_codec_base"].get(name, set())

@@ -28,6 +28,7 @@ import re
 import sys
 from typing import NamedTuple
 
+from lib.failed import Failed, ended
 from lib.libraries import DATA
 from lib.presentation import Parser, name_of, tokens
 
@@ -87,7 +88,8 @@ def definitions(name: str) -> list[Definition]:
     """All definitions of one of our texts."""
     text = (DATA / f"{name}.tls").read_text(encoding="utf-8")
     words, parser, found = words_of(text), Parser(text), []
-    assert [it.text for it in words] == parser.words
+    if texts(words) != parser.words:
+        raise Failed(f"{name}.tls: the parser reads other words than are compared")
     while parser.peek() is not None:
         start = parser.at
         title = name_of(parser.definition())
@@ -112,7 +114,7 @@ class Rfc:
         text = path.read_text(encoding="utf-8-sig", errors="replace")
         number = re.search(r"Request for Comments: *(\d+)", text)
         if not number:
-            raise SystemExit(f"{path}: no RFC, which has a line 'Request for Comments: ..'")
+            raise Failed(f"{path}: no RFC, which has a line 'Request for Comments: ..'")
         self.number = number[1]
         self.words = words_of(without_pages(text))
         self.places = collections.defaultdict(list)
@@ -253,7 +255,7 @@ def main(files: list[str]) -> int:
         return 2
     rfcs = {rfc.number: rfc for rfc in map(Rfc, map(pathlib.Path, files))}
     if len(rfcs) < len(files):
-        raise SystemExit("two files are of one RFC")
+        raise Failed("two files are of one RFC")
     verdicts = compare(rfcs)
     for line in [*(it.line for it in verdicts), *left_out(rfcs)]:
         print(line)
@@ -263,4 +265,4 @@ def main(files: list[str]) -> int:
 
 
 if __name__ == "__main__":
-    sys.exit(main(sys.argv[1:]))
+    sys.exit(ended(lambda: main(sys.argv[1:])))

@@ -1,6 +1,8 @@
 #!/usr/bin/env python3
 """Draws the pictures of the pages: `tools/pictures.py` writes message.svg, limits.svg, crates.svg and tlsdump.svg into docs/.
 
+The arrows of crates.svg are drawn by hand. wrong_arrows, for check_pages.py, compares them, as they are drawn, with crates.txt.
+
 Each colour is an attribute for light pages, and a style for dark ones. `tools/pictures.py FOLDER dark` writes the dark
 pictures with attributes alone, for a look at them by a program that knows no styles.
 """
@@ -11,7 +13,8 @@ import pathlib
 import sys
 import textwrap
 
-from lib.libraries import TOP
+from lib.arrows import Box, Line, arrows
+from lib.libraries import TOP, Libraries
 from lib.rejections import REJECTIONS
 
 WIDTH = 720
@@ -37,6 +40,9 @@ class Picture:
     def __init__(self, height: int, title: str, dark: bool = False) -> None:
         self.height, self.title, self.dark = height, title, dark
         self.parts: list[str] = []
+        # the lines that aren't dashed, and boxes with names
+        self.lines: list[Line] = []
+        self.boxes: dict[str, Box] = {}
 
     def colour(self, role: str) -> str:
         """The colour of a role."""
@@ -70,6 +76,7 @@ class Picture:
     def line(self, x1: float, y1: float, x2: float, y2: float, role: str = "line", width: float = 1.5, dashed: bool = False) -> None:
         """A line from one place to another."""
         dash = ' stroke-dasharray="5 4"' if dashed else ""
+        self.lines += [] if dashed else [(x1, y1, x2, y2)]
         self.parts.append(
             f'<line class="s-{role}" x1="{x1}" y1="{y1}" x2="{x2}" y2="{y2}" stroke="{self.colour(role)}"'
             f' stroke-width="{width}"{dash}/>'
@@ -188,6 +195,11 @@ def sections() -> list[tuple[str, list[str]]]:
     return found
 
 
+def title(heading: str) -> str:
+    """What the picture has of the heading of a section."""
+    return heading.split(",")[0]
+
+
 def crates(dark: bool) -> Picture:
     """All crates, in the sections of crates.txt: an arrow leads to what a section uses."""
     library, messages, generator, programs, tests, benchmark = sections()
@@ -199,7 +211,8 @@ def crates(dark: bool) -> Picture:
         rows = -(-len(names) // columns)
         height = 34 + 17 * rows
         p.box(x, y, width, height, role, 5)
-        p.text(x + 10, y + 18, heading.split(",")[0], 12, anchor="start", bold=True)
+        p.boxes[title(heading)] = x, y, width, height
+        p.text(x + 10, y + 18, title(heading), 12, anchor="start", bold=True)
         for at, name in enumerate(names):
             column, row = divmod(at, rows)
             p.text(x + 10 + column * (width - 10) / columns, y + 36 + 17 * row, name, 11, anchor="start", font=MONO)
@@ -245,6 +258,20 @@ def crates(dark: bool) -> Picture:
     p.line(470, middle + 80, 450, middle + 80, "ink", dashed=True)
     p.text(WIDTH / 2, p.height - 14, "an arrow leads to what a group uses; the dashed line: the generator writes these crates", 12, "soft")
     return p
+
+
+def used() -> set[tuple[str, str]]:
+    """Which sections of crates.txt use which others, by their titles."""
+    of = {name: title(heading) for heading, names in sections() for name in names}
+    pairs = {(of[name], of[it]) for name, uses in Libraries().uses.items() for it in uses if it in of}
+    return {pair for pair in pairs if pair[0] != pair[1]}
+
+
+def wrong_arrows(lines: list[Line], boxes: dict[str, Box], wanted: set[tuple[str, str]]) -> list[str]:
+    """The arrows that a picture lacks, of those wanted from one box to another, and those that it has for nothing."""
+    drawn = arrows(lines, boxes)
+    lacks = [f"no arrow from {one!r} to {other!r}, which it uses" for one, other in sorted(wanted - drawn)]
+    return lacks + [f"an arrow from {one!r} to {other!r}, which it doesn't use" for one, other in sorted(drawn - wanted)]
 
 
 def tlsdump(dark: bool) -> Picture:

@@ -25,6 +25,7 @@ import sys
 import tempfile
 
 from lib import cases, generated, verdicts
+from lib.failed import Failed, ended
 from lib.libraries import CRATES, DATA, TEXTS, TOP, Libraries
 
 # Pages of the laws that are the text's, and stay.
@@ -51,13 +52,15 @@ def read(path: pathlib.Path) -> Fault:
             old = text
         elif word.startswith("new"):
             changes.append((old, text))
-    assert refused and changes, path
+    if not refused or not changes:
+        raise Failed(f"{path.relative_to(TOP)}: it has no line `refused:`, or no lines `old:` and `new:`")
     return Fault(path.stem, refused, changes)
 
 
 def with_faults(text: str, faults: list[Fault]) -> str:
     for old, new in (change for fault in faults for change in fault.changes):
-        assert text.count(old) == 1, f"not once in the text: {old}"
+        if text.count(old) != 1:
+            raise Failed(f"not once in the text: {old}")
         text = text.replace(old, new)
     return text
 
@@ -68,7 +71,8 @@ def written_from(data: pathlib.Path, crate: str, to: pathlib.Path) -> None:
     with tempfile.TemporaryDirectory() as folder:
         generated.add(folder, "crate", text, more, crate)
         tried = cases.run("tlsgen", folder, cases.files_in(data))
-    assert tried.names(0, as_expected=False) == {"crate"}, tried.printed[-2000:] + tried.said[-2000:]
+    if tried.names(0, as_expected=False) != {"crate"}:
+        raise Failed(f"tlsgen writes no crate {crate}:\n{tried.printed[-2000:]}{tried.said[-2000:]}")
     for path, code in re.findall(r"^=== (\S+)\n(.*?)(?=^=== |\Z)", tried.printed, re.M | re.S):
         file = to / path
         file.parent.mkdir(parents=True, exist_ok=True)
@@ -175,4 +179,4 @@ def main() -> int:
 
 
 if __name__ == "__main__":
-    sys.exit(main())
+    sys.exit(ended(main))

@@ -1,5 +1,5 @@
-/* stream: the lengths of the TLS records that standard input begins with, a line each as soon as it is whole, and how many bytes are left of
- * what was read.
+/* stream: the lengths of the TLS records that standard input begins with, a line each as soon as it is whole, and how many bytes are left
+ * of what was read.
  *
  * A record that isn't whole is moved to the front of the buffer, and the rest of it is read. No record has more bytes than the buffer. */
 #define _POSIX_C_SOURCE 200809L

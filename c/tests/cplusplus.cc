@@ -11,7 +11,8 @@
 
 int main() {
   const uint8_t alert[] = {1, 0, 0xee};
-  const bool is_alert = tls13_alert_validate_prefix(alert, sizeof alert).taken == 2 && tls13_alert_decode_check(alert, sizeof alert).taken == 2;
+  const bool is_alert =
+      tls13_alert_validate_prefix(alert, sizeof alert).taken == 2 && tls13_alert_decode_check(alert, sizeof alert).taken == 2;
   const uint8_t suite[] = {0, 1};
   const tls_codec_outcome outcome = mls_welcome_validate_prefix(suite, sizeof suite);
   const tls_codec_outcome decoded = mls_welcome_decode_check(suite, sizeof suite);

@@ -1,5 +1,5 @@
-/* figures FILE: how much stack the calls of each row's message touch, in bytes: a line `NAME VALIDATOR DECODER`. Each is called once, in a thread
- * on a painted stack. What a thread touches that calls nothing isn't counted. */
+/* figures FILE: how much stack the calls of each row's message touch, in bytes: a line `NAME VALIDATOR DECODER`. Each is called once, in a
+ * thread on a painted stack. What a thread touches that calls nothing isn't counted. */
 #define _POSIX_C_SOURCE 200809L
 #include <pthread.h>
 #include "rows.h"

@@ -1,5 +1,5 @@
-/* memory FILE: each request for memory that a decoder makes of a row's bytes is refused in turn. Then the status is that of OutOfMemory, and
- * no block is left. With none refused no block is left either. A validator makes no request.
+/* memory FILE: each request for memory that a decoder makes of a row's bytes is refused in turn. Then the status is that of OutOfMemory,
+ * and no block is left. With none refused no block is left either. A validator makes no request.
  *
  * Linked with --wrap of malloc, realloc and free. */
 #include "rows.h"

@@ -53,7 +53,8 @@ static int go_over(next *next, const uint8_t *bytes, size_t length, struct answe
     size_t taken = answer->outcome.taken;
     if (answer->outcome.status != TLS_CODEC_ACCEPTED)
       return !taken && is_place(left, old.offset, old.size) && is_place(element, before.offset, before.size);
-    if (!taken || taken > old.size || !is_place(element, old.offset, taken) || !is_place(left, old.offset + taken, old.size - taken)) return 0;
+    if (!taken || taken > old.size || !is_place(element, old.offset, taken) || !is_place(left, old.offset + taken, old.size - taken))
+      return 0;
     add(answer, element);
   } while (left.size);
   return 1;

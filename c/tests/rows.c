@@ -1,5 +1,5 @@
-/* rows FILE: what the validator and the decoder say of each row of test_outcome or tls13.tsv, and where the fields are. Then each bit is turned
- * in its turn, and the two are compared.
+/* rows FILE: what the validator and the decoder say of each row of test_outcome or tls13.tsv, and where the fields are. Then each bit is
+ * turned in its turn, and the two are compared.
  *
  * A row has a message's name, hex or `-`, what the validator is to say (`STATUS TAKEN AT DETAIL`); of test_outcome what the decoder is to
  * say, and of some accepted messages where their fields are. */

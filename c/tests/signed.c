@@ -21,9 +21,11 @@ static int is_as_expected(char **columns) {
   if (!out || !size) exit(2);
   const uint8_t *signed_context = context_length ? context : NULL;
   memset(out, MARK, size + SPARE);
-  tls_codec_outcome none = mls_framed_content_tbs_encode(wire_format, content, content_length, signed_context, context_length, out, size - 1);
+  tls_codec_outcome none =
+      mls_framed_content_tbs_encode(wire_format, content, content_length, signed_context, context_length, out, size - 1);
   int is_kept = none.status == TLS_CODEC_INVALID_WRITE_LENGTH && !none.taken && !none.at && !none.detail && are_marks(out, size + SPARE);
-  tls_codec_outcome outcome = mls_framed_content_tbs_encode(wire_format, content, content_length, signed_context, context_length, out, size + SPARE);
+  tls_codec_outcome outcome =
+      mls_framed_content_tbs_encode(wire_format, content, content_length, signed_context, context_length, out, size + SPARE);
   int is_written = memcmp(out, written, size) == 0 && are_marks(out + size, SPARE);
   free(content), free(context), free(written), free(out);
   if (is_kept && is_written && strcmp(text_of(outcome), columns[3]) == 0) return 1;

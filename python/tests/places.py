@@ -48,8 +48,9 @@ def are_numbers_named(validators: Validators) -> bool:
     request = validators.locate("tls13_key_update", handshake["body"][3:])["request_update"]
     algorithm = validators.locate("tls13_certificate_verify", bytes.fromhex("0804000101"))["algorithm"]
     is_private = validators.message_wire_format(message) is MlsWireFormat.PRIVATE_MESSAGE
-    is_update = handshake["msg_type"] == bytes([Tls13HandshakeType.KEY_UPDATE]) and request == bytes([Tls13KeyUpdateRequest.UPDATE_REQUESTED])
-    return is_private and is_update and int.from_bytes(algorithm, "big") == Tls13SignatureScheme.RSA_PSS_RSAE_SHA256
+    is_update = handshake["msg_type"] == bytes([Tls13HandshakeType.KEY_UPDATE])
+    is_requested = request == bytes([Tls13KeyUpdateRequest.UPDATE_REQUESTED])
+    return is_private and is_update and is_requested and int.from_bytes(algorithm, "big") == Tls13SignatureScheme.RSA_PSS_RSAE_SHA256
 
 
 def main() -> int:

@@ -1,5 +1,5 @@
-//! The rows of `test_places` and `c/tests/lengths.tsv`, and the fields in those of `test_outcome`: the elements of lists, the wire format of a message,
-//! the fields of each message that has some, and lengths.
+//! The rows of `test_places` and `c/tests/lengths.tsv`, and the fields in those of `test_outcome`: the elements of lists, the wire
+//! format of a message, the fields of each message that has some, and lengths.
 #[macro_use]
 mod common;
 

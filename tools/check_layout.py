@@ -1,0 +1,97 @@
+#!/usr/bin/env python3
+"""Checks the layout of what isn't Rattle: all files in tools/, .ci/, c/, python/ and rust/.
+
+A line has at most 140 columns, no tab, and no blank at its end. A file ends with one line feed. Python has at most two empty lines in a
+row, and the backslashes of a macro of C are in one column. Rows (*.tsv) may have tabs and long lines, and a file whose first line says that
+a script of tools/ wrote it, long lines. tools/data/outputs/ has lines of rattle, and isn't read.
+
+Before that it tries each of these on a text with one fault. Prints a line for each fault; last 'N passed, N failed', a file each.
+"""
+from __future__ import annotations
+
+import pathlib
+import re
+import sys
+from collections.abc import Iterator
+
+from lib.libraries import TOP, files_of_clone
+
+FOLDERS = ("tools", ".ci", "c", "python", "rust")
+OUTPUTS = pathlib.Path("tools/data/outputs")
+COLUMNS = 140
+WRITTEN = re.compile(r"Written by tools/\w+\.py\b")
+C = (".c", ".cc", ".h", ".inc")
+
+
+def faults_of_line(line: str, is_rows: bool, is_written: bool) -> Iterator[str]:
+    """What is wrong with a line."""
+    if len(line) > COLUMNS and not is_rows and not is_written:
+        yield f"{len(line)} columns"
+    if "\t" in line and not is_rows:
+        yield "a tab"
+    if line != line.rstrip():
+        yield "a blank at the end"
+
+
+def macros(lines: list[str]) -> Iterator[int]:
+    """The lines whose backslash is in another column than that of the line before."""
+    for number, (one, other) in enumerate(zip(lines, lines[1:]), 2):
+        if one.endswith("\\") and other.endswith("\\") and len(one) != len(other):
+            yield number
+
+
+def faults(path: pathlib.PurePath, text: str) -> Iterator[tuple[int, str]]:
+    """What is wrong with a file, by the numbers of its lines."""
+    lines = text.split("\n")
+    is_rows, is_written = path.suffix == ".tsv", bool(WRITTEN.search(lines[0]))
+    for number, line in enumerate(lines, 1):
+        yield from ((number, fault) for fault in faults_of_line(line, is_rows, is_written))
+    if lines[-1] or not any(lines[-2:]):
+        yield len(lines), "it doesn't end with one line feed"
+    if path.suffix == ".py":
+        yield from ((at, "a third empty line") for at in range(3, len(lines)) if not any(lines[at - 3 : at]))
+    if path.suffix in C:
+        yield from ((number, "a backslash in another column") for number in macros(lines))
+
+
+def selftest() -> list[str]:
+    """The planted faults that aren't found, and what is found in texts that have none."""
+    long = "x" * (COLUMNS + 1)
+    planted = {
+        "a long line": ("it.py", f"{long}\n"),
+        "a long line in a script without a suffix": ("run", f"a\n{long}\n"),
+        "a tab": ("it.c", "\tint i;\n"),
+        "a blank at the end": ("it.rs", "let i = 1; \n"),
+        "no line feed": ("it.py", "i = 1"),
+        "two line feeds": ("it.h", "int i;\n\n"),
+        "nothing but a line feed": ("it.py", "\n"),
+        "a third empty line": ("it.py", "i = 1\n\n\n\nj = 2\n"),
+        "a backslash": ("it.inc", "#define I \\\n  1   \\\n  + 2\n"),
+        "a blank in rows": ("it.tsv", "a\tb \n"),
+        "a blank in what is written": ("it.h", "/* Written by tools/exports.py. */\nint i; \n"),
+    }
+    sound = {
+        "it.py": f"{long[1:]}\n\n\ni = 1\n",
+        "it.tsv": f"a\t{long}\n",
+        "it.h": f"/* Written by tools/exports.py. */\n{long}\n",
+        "it.c": "#define I \\\n  1       \\\n  + 2\n\n\n\nint i;\n",
+    }
+    missed = [f"selftest: not found: {fault}" for fault, (name, text) in planted.items() if not list(faults(pathlib.PurePath(name), text))]
+    return missed + [f"selftest: found: {name}: {it}" for name, text in sound.items() for it in faults(pathlib.PurePath(name), text)]
+
+
+def main() -> int:
+    missed = selftest()
+    print("".join(f"{it}\n" for it in missed), end="")
+    files = [path for path in files_of_clone() if path.parts[0] in FOLDERS and OUTPUTS not in path.parents]
+    failed = {"selftest"} if missed else set()
+    for path in files:
+        for number, fault in faults(path, (TOP / path).read_text(encoding="utf-8", errors="replace")):
+            print(f"{path}:{number}: {fault}")
+            failed.add(path.as_posix())
+    print(f"{len(files) + 1 - len(failed)} passed, {len(failed)} failed")
+    return 1 if failed or not files else 0
+
+
+if __name__ == "__main__":
+    sys.exit(main())
