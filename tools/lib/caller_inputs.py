@@ -77,9 +77,9 @@ def vector() -> dict[str, str]:
 
 
 def captured() -> list[bytes]:
-    """All captured messages that TLS 1.3 has, which are each a whole Handshake."""
-    texts = [path.read_text(encoding="utf-8").partition("REFUSED")[0] for path in sorted(CAPTURED.glob("*.rt"))]
-    found = [digits for text in texts for digits in re.findall(r"digits: &\[(.*?)\]", text, re.S)]
+    """All captured messages that TLS 1.3 has, which are each a whole Handshake: the others are in no `Row`."""
+    texts = [path.read_text(encoding="utf-8") for path in sorted(CAPTURED.glob("*.rt"))]
+    found = [digits for text in texts for digits in re.findall(r"\bRow \{\s+name: [^\n]*\s+digits: &\[(.*?)\]", text, re.S)]
     return [bytes.fromhex("".join(re.findall(r'"([0-9a-f]+)"', digits))) for digits in found]
 
 
