@@ -6,7 +6,7 @@ import enum
 VERSION = "0.2.0"
 
 # What archives of this version and these headers have beside them.
-MARK = "0.2.0 db2eeefa5796f45a"
+MARK = "0.2.0 daa900fd9cbbd1a5"
 
 # The names of the statuses, by their numbers.
 STATUSES = [

@@ -217,6 +217,9 @@ def cmake(room: Room) -> None:
     room.run(["cmake", "-S", user, "-B", user / "build", f"-DCMAKE_PREFIX_PATH={installed.resolve()}"])
     room.run(["cmake", "--build", user / "build"])
     room.run([user / "build" / "found", ROWS[1]])
+    (installed / "lib" / MARK).write_text("0.1.0 0\n")
+    room.run(["cmake", "-S", user, "-B", user / "mixed", f"-DCMAKE_PREFIX_PATH={installed.resolve()}"], status=1)
+    room.run(["cmake", "-S", C, "-B", room.folder / "without", f"-DTLS_CODEC_ARCHIVES={room.folder / 'nowhere'}"], status=1)
 
 
 def cmake_of_one(room: Room) -> None:

@@ -22,7 +22,7 @@ WHOLE_OUTCOME = """\
 /* The outcome if all of the bytes are to be used: if the encoding is accepted and bytes come after
    it, the status is `TLS_CODEC_TRAILING_DATA`, `taken` is 0, and `at` is where they begin, from
    where the call's own `at` counts. `length` is what the call was given; after `NAME_encode` it is
-   the number of bytes that were written. */
+   the number of bytes that were written. It isn't for `NAME_next`, which takes one element. */
 static inline tls_codec_outcome tls_codec_whole(tls_codec_outcome outcome, size_t length) {
   if (outcome.status == TLS_CODEC_ACCEPTED && outcome.taken != length) {
     outcome.status = TLS_CODEC_TRAILING_DATA;

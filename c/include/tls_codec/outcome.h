@@ -22,7 +22,7 @@
 #define TLS_CODEC_VERSION "0.2.0"
 
 /* The line that `tls_codec.version` beside archives of just these headers has. */
-#define TLS_CODEC_HEADERS "0.2.0 db2eeefa5796f45a"
+#define TLS_CODEC_HEADERS "0.2.0 daa900fd9cbbd1a5"
 
 /* A call's status. The numbers don't change. */
 enum tls_codec_status {
@@ -78,7 +78,7 @@ typedef struct tls_codec_outcome {
 /* The outcome if all of the bytes are to be used: if the encoding is accepted and bytes come after
    it, the status is `TLS_CODEC_TRAILING_DATA`, `taken` is 0, and `at` is where they begin, from
    where the call's own `at` counts. `length` is what the call was given; after `NAME_encode` it is
-   the number of bytes that were written. */
+   the number of bytes that were written. It isn't for `NAME_next`, which takes one element. */
 static inline tls_codec_outcome tls_codec_whole(tls_codec_outcome outcome, size_t length) {
   if (outcome.status == TLS_CODEC_ACCEPTED && outcome.taken != length) {
     outcome.status = TLS_CODEC_TRAILING_DATA;
