@@ -3,7 +3,9 @@ use super::each_call::{expect_encoded_as, expect_written, expect_written_alone};
 use crate::tests::same;
 use std::marker::PhantomData;
 use std::test::Fail;
-use tls_codec::{ByRef2, ByRef9, Deserialize, DeserializeBytes, Serialize, U24};
+use tls_codec::{
+    ByRef2, ByRef5, ByRef6, ByRef7, ByRef8, ByRef9, Deserialize, DeserializeBytes, Serialize, U24,
+};
 
 #[test]
 fn numbers_in_a_row(rt: HostRuntime) -> Result<(), Fail> {
@@ -55,4 +57,15 @@ fn values_borrowed_in_a_row(rt: HostRuntime) -> Result<(), Fail> {
         (last, (), 16u8),
     );
     expect_encoded_as(&rt, alloc, &read, &bytes)
+}
+
+#[test]
+fn five_to_eight_values_borrowed_in_a_row(rt: HostRuntime) -> Result<(), Fail> {
+    let alloc = rt.alloc();
+    let bytes = [1u8, 2, 3, 4, 5, 6, 7, 8];
+    let [a, b, c, d, e, f, g, h] = bytes;
+    expect_written(&rt, alloc, &ByRef5(&a, &b, &c, &d, &e), &bytes[..5])?;
+    expect_written(&rt, alloc, &ByRef6(&a, &b, &c, &d, &e, &f), &bytes[..6])?;
+    expect_written(&rt, alloc, &ByRef7(&a, &b, &c, &d, &e, &f, &g), &bytes[..7])?;
+    expect_written(&rt, alloc, &ByRef8(&a, &b, &c, &d, &e, &f, &g, &h), &bytes)
 }
