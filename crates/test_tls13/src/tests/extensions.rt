@@ -1,6 +1,6 @@
 //! Extensions, each opened as what RFC 8446 has for its type in its message (section 4.2): docs/TLS13.md
 //! quotes some of it.
-use crate::tests::captured::{bytes, hrr, tls12};
+use crate::tests::captured::{Row, bytes, hrr, tls12};
 use std::alloc::Global;
 use std::process::Abort;
 use std::test::Fail;
@@ -187,29 +187,42 @@ fn group_of(alloc: Global, hello: &ServerHello) -> Result<Option<NamedGroup>, Er
     Ok(Some(share.server_share.group))
 }
 
+fn hello_of_server(message: &Handshake) -> Option<&ServerHello> {
+    match message {
+        Handshake::ServerHello(hello) => Some(hello),
+        _ => None,
+    }
+}
+
+fn expect_hello_of_server(
+    rt: &impl Abort,
+    alloc: Global,
+    row: &Row,
+    version: Option<u16>,
+    group: Option<NamedGroup>,
+    retries: bool,
+) -> Result<(), Fail> {
+    let bytes = bytes(rt, alloc, row.digits)?;
+    let message = done_at(
+        row.name,
+        Handshake::tls_deserialize_exact_bytes(alloc, &bytes),
+    )?;
+    same_at(row.name, is_retry(&message), retries)?;
+    let Some(hello) = hello_of_server(&message) else {
+        panic!(rt; "no hello of a server at {}", row.name);
+    };
+    same_at(row.name, version_of(alloc, hello), Ok(version))?;
+    same_at(row.name, group_of(alloc, hello), Ok(group))
+}
+
 // A request to try again, and the hello after it; then a hello of TLS 1.2.
 #[test]
 fn hellos_of_servers(rt: HostRuntime) -> Result<(), Fail> {
     let alloc = rt.alloc();
     let secp384r1 = Some(NamedGroup(0x18));
-    for (row, version, group, retries) in [
-        (&hrr::ROWS[1], Some(0x0304), secp384r1, true),
-        (&hrr::ROWS[3], Some(0x0304), secp384r1, false),
-        (&tls12::ROWS[1], None, None, false),
-    ] {
-        let bytes = bytes(&rt, alloc, row.digits)?;
-        let message = done_at(
-            row.name,
-            Handshake::tls_deserialize_exact_bytes(alloc, &bytes),
-        )?;
-        same_at(row.name, is_retry(&message), retries)?;
-        let Handshake::ServerHello(hello) = message else {
-            panic!(rt; "no hello of a server at {}", row.name);
-        };
-        same_at(row.name, version_of(alloc, &hello), Ok(version))?;
-        same_at(row.name, group_of(alloc, &hello), Ok(group))?;
-    }
-    Ok(())
+    expect_hello_of_server(&rt, alloc, &hrr::ROWS[1], Some(0x0304), secp384r1, true)?;
+    expect_hello_of_server(&rt, alloc, &hrr::ROWS[3], Some(0x0304), secp384r1, false)?;
+    expect_hello_of_server(&rt, alloc, &tls12::ROWS[1], None, None, false)
 }
 
 // Those that no capture has.
