@@ -8,8 +8,8 @@ An edit has the lines of an edit of must-fail/, which `rt --help` describes, and
     old: while came < len {
     new: while came + 1 < len {
 
-Here an `old:` text may be in its file more than once, if lines `after: TEXT` come before it: it is the first one behind these texts, which
-are looked for one behind the other.
+Lines `after: TEXT` before an `old:` text say which one is meant, if its file has it more than once: the first that comes after these
+texts, in their order.
 """
 from __future__ import annotations
 
@@ -98,7 +98,7 @@ def change(crate: pathlib.Path, file: str, after: list[str], old: str, new: str)
     for it in [*after, old]:
         place = text.find(it, start)
         if not it or place < 0:
-            raise BadEdit(f"a text is not in {file}, or not behind those of 'after:': {it}")
+            raise BadEdit(f"a text is not in {file}, or not after those of 'after:': {it}")
         start = place + len(it)
     return Change(file, start - len(old), start, new)
 
