@@ -1,15 +1,22 @@
 #!/usr/bin/env python3
-"""Lists the public functions with a contract, and the methods of traits, that have no wrong body: of the library, the archives, and what
+"""Lists the public functions and the methods of traits that have no contract, or no wrong body: of the library, the archives, and what
 these and `tlsview` are made of.
 
 An edit of wrong/ names its function; one of must-fail/ turns that which has its `old:` text. A method in an `impl Trait for Type` has the
-contract of the trait, and the path that rattle gives it: `tagged::TaggedSerialize::tls_serialize`. A function needs none if its body is
-empty, as a law's is, or one call: what this calls has its own. data/without_wrong_bodies.txt has the other exceptions, with reasons; "none
-yet" is a gap. Prints each function that lacks one, and each exception that is none; last 'N passed, N failed', a function each. Before that
-it tries itself on a crate without one of its edits, which counts as one.
+contract of the trait, and the path that rattle gives it: `tagged::TaggedSerialize::tls_serialize`.
+
+A function needs no wrong body if its body is empty, as a law's is, or one call of something with a contract. That is `call`, `let x =
+call?; Ok(x)` or `let x = call?; Ok(Type(x))`, and nothing else. What the call is of and its arguments are names, paths, fields and
+literals, and these borrowed or dereferenced. So a constant, a field, `Some(x)`, an operator, a cast and a second call need one.
+
+data/without_wrong_bodies.txt has the exceptions, with reasons; "none yet" is a gap. Prints each function that lacks one, each exception
+that is none, and how many functions are of each class; last 'N passed, N failed', a function each. Before that it tries itself on planted
+functions of each class, and on a crate without one of its edits, which counts as one.
 """
 from __future__ import annotations
 
+import collections
+import dataclasses
 import re
 import sys
 from collections.abc import Iterator
@@ -18,12 +25,59 @@ from lib import edits
 from lib.libraries import CRATES, TOP, Libraries
 
 FUNCTION = re.compile(r'( *)(pub )?(?:final |const |unsafe |extern "C" )*fn (?:r#)?(\w+)')
-# What is more than one call: a statement, a block or an operator. `let found = call()?;` with `Ok(found)` or `Ok(Type(found))` is one.
-MORE = re.compile(r"[;{]|\s(?:[-+*/%^|&<>=!]=?|&&|\|\||<<|>>)\s")
-PASSED_ON = re.compile(r"let (\w+) = [^;{]*\?;\s*Ok\((?:[\w:]+\()?\1\)?\)")
+TYPE = re.compile(r"^(?:pub(?:\(\w+\))? )?(?:struct|enum) (\w+)", re.M)
+# A type of an impl that has parameters alone, as `Encoded<'a, T>` and not `Encoded<'a, Vec<T>>`.
+BARE = re.compile(r"(\w+)(?:<(?:\s*(?:'\w+|(?!U24\b)[A-Z][A-Z_0-9]*)\s*,?)*>)?")
+# What a call is of, and its arguments; a call, whose name has a small letter first; and a body that is one.
+VALUE = r'(?:&mut |[&*])*(?:"[^"]*"|\w+(?:(?:::|\.)\w+)*)'
+CALL = rf"(?:(?:{VALUE}|\({VALUE}\))\s*\.|(?:\w+::)*)[a-z_]\w*(?:::<[\w:<>, ]*>)?\(\s*(?:{VALUE}(?:,\s*{VALUE})*,?\s*)?\)"
+ONE_CALL = re.compile(rf"{CALL}|let (\w+) = {CALL}\?;\s*Ok\((?:\1|[A-Z]\w*\(\1\))\)")
 BELOW_ARCHIVES = ["mls_fields", "tls13_fields", "mls_signed", "tls_codec_outcome", "view_input", "tlsview_run"]
 
 WITHOUT = TOP / "tools/data/without_wrong_bodies.txt"
+
+# The classes of functions. Those of LACKING need an exception.
+EDIT, ONE, EXCEPTED = "with an edit", "one call or empty", "excepted"
+LACKING = NO_CONTRACT, NO_BODY = "no contract", "no wrong body"
+
+# Bodies of each class, of functions with a contract.
+PLANTED = {
+    ONE: ["", "read(at, &mut out.0)", "(**self).read::<u8, T>(at)", "let found = Held::read(at)?;\n    Ok(found)",
+          "let found = read(at)?;\n    Ok(Held(found))"],
+    NO_BODY: ["4", "self.0", "Some(at)", "Error::Ended", "*at", "read(at + 1)", "read(at as u64)", "!read(at)", "read(at.len())",
+              "read(at).ended()", "Ok(Some(read(at)?))", "read(at);", "let found = read(at)?;\n    Ok(4)",
+              "let found = read(at)?;\n    Ok(Held::of(found))"],
+}
+# A trait with a method that has a contract and one that has none, and an impl.
+PLANTED_TRAIT = """pub trait Held {
+    fn stated(&self) -> usize
+        ensures { result ≡ 0 };
+
+    fn unstated(&self) -> usize;
+}
+
+impl Held for u8 {
+    fn stated(&self) -> usize {
+        0
+    }
+}"""
+
+
+@dataclasses.dataclass(frozen=True)
+class Function:
+    """A public function or a method of a trait, by its path below the crate."""
+
+    path: str
+    has_contract: bool
+    body: str
+
+    def class_in(self, turned: set[str]) -> str:
+        """Its class in a crate whose edits turn these functions, before exceptions."""
+        if not self.has_contract:
+            return NO_CONTRACT
+        if self.path in turned:
+            return EDIT
+        return ONE if not self.body or ONE_CALL.fullmatch(self.body) else NO_BODY
 
 
 def excepted() -> set[str]:
@@ -90,13 +144,22 @@ def head_of(lines: list[str]) -> str:
     return without_parameters(re.sub(r"^(?:impl|(?:pub )?trait)\s*", "", head)).strip()
 
 
-def named(file: str, lines: list[str], name: str) -> str:
-    """The path below the crate of a function that the last of these lines begins."""
-    return module_of(file) + (owner(lines) if lines[-1].startswith(" ") else "") + name
+def named(file: str, lines: list[str], name: str, homes: dict[str, str]) -> str:
+    """The path below the crate of a function that the last of these lines begins. A type's own method has the path of the type."""
+    if not lines[-1].startswith(" "):
+        return module_of(file) + name
+    bare = BARE.fullmatch(head_of(lines))
+    return homes.get(bare[1] if bare else "", module_of(file)) + owner(lines) + name
+
+
+def homes_of(crate: str) -> dict[str, str]:
+    """The types of a crate, with their modules."""
+    paths = sorted((CRATES / crate / "src").rglob("*.rt"))
+    return {name: module_of(it.relative_to(CRATES / crate).as_posix()) for it in paths for name in TYPE.findall(it.read_text())}
 
 
 def is_of_trait(lines: list[str]) -> bool:
-    """Whether the last of these lines is in an impl of a trait, or in a trait: these have its contract."""
+    """Whether the last of these lines is in a trait, or in an impl of one."""
     start = max((n for n, line in enumerate(lines) if re.match(r"\S.*\{$|impl\b|(?:pub )?trait\b", line)), default=0)
     is_trait = re.match(r"(?:pub )?trait\b", lines[start])
     return lines[-1].startswith("    ") and bool(is_trait or " for " in head_of(lines))
@@ -107,27 +170,33 @@ def ends_head(line: str, indent: str) -> bool:
     return line.endswith(";") or bool(re.search(r"\{\}?$", line)) and not line.startswith(f"{indent}    ")
 
 
-def functions(crate: str) -> Iterator[tuple[str, str]]:
-    """The public functions of a crate that have a contract, and the methods of traits, by their paths, with their bodies."""
+def functions_of(file: str, lines: list[str], homes: dict[str, str]) -> Iterator[Function]:
+    """The public functions of a file and the methods of its traits and impls. A declaration without a body is one if it has no contract."""
+    for at, line in enumerate(lines):
+        found, before = FUNCTION.match(line), lines[: at + 1]
+        is_method = bool(found) and is_of_trait(before)
+        if not found or not found[2] and not is_method:
+            continue
+        indent = found[1]
+        start = next(n for n in range(at, len(lines)) if ends_head(lines[n], indent))
+        is_whole = lines[start].endswith((";", "{}"))
+        end = start if is_whole else next(n for n in range(start, len(lines)) if lines[n].startswith(f"{indent}}}"))
+        stated = is_method and " for " in head_of(before) or any(it.startswith(f"{indent}    ensures") for it in lines[at : start + 1])
+        if not stated or not lines[start].endswith(";"):
+            body = re.sub(r"//.*", "", "\n".join(lines[start + 1 : end]))
+            yield Function(named(file, before, found[3], homes), stated, body.strip())
+
+
+def functions(crate: str) -> Iterator[Function]:
+    """The public functions of a crate, and the methods of its traits and impls."""
+    homes = homes_of(crate)
     for path in sorted((CRATES / crate / "src").rglob("*.rt")):
-        lines = path.read_text().split("\n")
-        for at, line in enumerate(lines):
-            found = FUNCTION.match(line)
-            if not found or not found[2] and not is_of_trait(lines[: at + 1]):
-                continue
-            indent, is_public, name = found.groups()
-            start = next(n for n in range(at, len(lines)) if ends_head(lines[n], indent))
-            if lines[start].endswith(";"):
-                continue
-            end = next(n for n in range(start, len(lines)) if lines[n].startswith(f"{indent}}}") or lines[n].endswith("{}"))
-            if not is_public or any(it.startswith(f"{indent}    ensures") for it in lines[at:start]):
-                file = path.relative_to(CRATES / crate).as_posix()
-                yield named(file, lines[: at + 1], name), "\n".join(lines[start + 1 : end]).strip()
+        yield from functions_of(path.relative_to(CRATES / crate).as_posix(), path.read_text().split("\n"), homes)
 
 
 def turned(crate: str) -> set[str]:
     """The functions of a crate that edits turn, by their paths, of types without their parameters."""
-    folder, found = CRATES / crate, set()
+    folder, homes, found = CRATES / crate, homes_of(crate), set()
     for path in folder.glob("wrong/*.edit"):
         found.add("::".join(part.split("+")[0] for part in edits.read(path, folder).function.split("::")))
     for path in folder.glob("must-fail/*.edit"):
@@ -135,38 +204,48 @@ def turned(crate: str) -> set[str]:
             lines = (folder / file).read_text().partition(old)[0].split("\n")
             at = max((n for n, line in enumerate(lines) if edits.FUNCTION.search(line) and "//" not in line), default=None)
             if at is not None:
-                found.add(named(file, lines[: at + 1], edits.FUNCTION.findall(lines[at])[-1]))
+                found.add(named(file, lines[: at + 1], edits.FUNCTION.findall(lines[at])[-1], homes))
     return found
 
 
-def without(found: list[tuple[str, str]], has_one: set[str]) -> list[str]:
-    """Which of these functions need a wrong body, and have none among those of `has_one`."""
-    return [path for path, body in found if MORE.search(body) and not PASSED_ON.fullmatch(body) and path not in has_one]
+def planted(body: str, clause: str = "") -> Function:
+    """The function of a file that has one, with this body and this line in its head."""
+    return next(functions_of("src/lib.rt", f"pub fn planted(at: usize) -> usize\n{clause}{{\n    {body}\n}}".split("\n"), {}))
 
 
 def selftest() -> list[str]:
-    """Whether a function is missed whose edit was taken away, or one reported that needs none."""
-    crate, path = "tls_codec_wire", "gather::gather"
-    found, has_one = list(functions(crate)), turned(crate)
-    is_found = set(without(found, has_one - {path})) - set(without(found, has_one)) == {path}
-    missed = [] if is_found else [f"selftest: {path} without its edits isn't found"]
-    needless = {"empty": "", "call": "read(at, out)", "passed_on": "let found = read(at)?;\n        Ok(Held(found))"}
-    return missed + [f"selftest: {it} needs no wrong body" for it in without(list(needless.items()), set())]
+    """Whether a planted function is taken for one of another class, or a function isn't missed whose edits were taken away."""
+    stated = {(name, body): planted(body, "    ensures { result ≡ at }\n") for name, bodies in PLANTED.items() for body in bodies}
+    failed = [f"selftest: {body!r} isn't of the class '{name}'" for (name, body), it in stated.items() if it.class_in(set()) != name]
+    failed += [f"selftest: {body!r} with an edit has none" for (_, body), it in stated.items() if it.class_in({it.path}) != EDIT]
+    failed += [f"selftest: {body!r} has a contract" for _, body in stated if planted(body).class_in({"planted"}) != NO_CONTRACT]
+    of_trait = [(it.path, it.class_in(set())) for it in functions_of("src/lib.rt", PLANTED_TRAIT.split("\n"), {})]
+    failed += [] if of_trait == [("Held::unstated", NO_CONTRACT), ("U8Held::stated", NO_BODY)] else [f"selftest: of a trait: {of_trait}"]
+    path, has_one = "gather::gather", turned("tls_codec_wire")
+    found = [it.path for it in functions("tls_codec_wire") if it.class_in(has_one - {path}) != it.class_in(has_one)]
+    return failed + ([] if found == [path] else [f"selftest: {path} without its edits isn't found"])
 
 
 def main() -> int:
-    passed, lacking, exceptions = 1, selftest(), excepted()
-    unused = set(exceptions)
+    failed, exceptions, counts = selftest(), excepted(), collections.Counter()
+    passed, unused = int(not failed), set(exceptions)
     for crate in held():
-        found = list(functions(crate))
-        named = {f"{crate}::{path}" for path in without(found, turned(crate))}
-        unused -= named
-        lacking += [f"{name}: no wrong body" for name in sorted(named - exceptions)]
-        passed += len(found)
-    lacking += [f"{name}: an exception that is none" for name in sorted(unused)]
-    print("".join(f"{line}\n" for line in lacking), end="")
-    print(f"{passed - len(lacking)} passed, {len(lacking)} failed")
-    return 1 if lacking or not passed else 0
+        has_one = turned(crate)
+        for function in functions(crate):
+            name, kind = f"{crate}::{function.path}", function.class_in(has_one)
+            if kind in LACKING and name in exceptions:
+                unused.discard(name)
+                kind = EXCEPTED
+            if kind in LACKING:
+                failed.append(f"{name}: {kind}")
+            else:
+                passed += 1
+            counts[kind] += 1
+    failed += [f"{name}: an exception that is none" for name in sorted(unused)]
+    print("".join(f"{line}\n" for line in failed), end="")
+    print(", ".join(f"{counts[it]} {it}" for it in (EDIT, ONE, EXCEPTED, *(it for it in LACKING if counts[it]))))
+    print(f"{passed} passed, {len(failed)} failed")
+    return 1 if failed or not passed else 0
 
 
 if __name__ == "__main__":

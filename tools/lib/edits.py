@@ -7,6 +7,9 @@ An edit has the lines of an edit of must-fail/, which `rt --help` describes, and
     file: src/gather.rt
     old: while came < len {
     new: while came + 1 < len {
+
+Lines `after: TEXT` before an `old:` text say which one is meant, if its file has it more than once: the first that comes after these
+texts, in their order.
 """
 from __future__ import annotations
 
@@ -54,7 +57,7 @@ class Edit:
 
 def read(path: pathlib.Path, crate: pathlib.Path) -> Edit:
     """The edit of this file, held to the texts of the crate that it changes."""
-    function, is_alone, file, old, changes = "", False, "", "", []
+    function, is_alone, file, old, after, changes = "", False, "", "", [], []
     for line in path.read_text(encoding="utf-8").split("\n"):
         word, _, text = line.partition(":")
         if word == "fn":
@@ -63,10 +66,13 @@ def read(path: pathlib.Path, crate: pathlib.Path) -> Edit:
             is_alone = text.strip() == "yes"
         elif word == "file":
             file = text.strip()
+        elif word == "after":
+            after.append(text.removeprefix(" "))
         elif word == "old":
             old = text.removeprefix(" ")
         elif word == "new":
-            changes.append(change(crate, file, old, text.removeprefix(" ")))
+            changes.append(change(crate, file, after, old, text.removeprefix(" ")))
+            after = []
     if not re.fullmatch(r"\w[\w:+]*", function):
         raise BadEdit("it has no line 'fn: PATH'")
     if not changes:
@@ -80,15 +86,21 @@ def read(path: pathlib.Path, crate: pathlib.Path) -> Edit:
     return Edit(path.stem, function, is_alone, tuple(changes))
 
 
-def change(crate: pathlib.Path, file: str, old: str, new: str) -> Change:
+def change(crate: pathlib.Path, file: str, after: list[str], old: str, new: str) -> Change:
     if not file.startswith("src/") or ".." in file or not (crate / file).is_file():
         raise BadEdit(f"its line 'file:' names no file below src/: {file}")
     if not old or old == new:
         raise BadEdit("a line 'new:' changes nothing")
     text = (crate / file).read_text(encoding="utf-8")
-    if text.count(old) != 1:
+    if not after and text.count(old) != 1:
         raise BadEdit(f"an 'old:' text is in {file} {text.count(old)} times, and not once: {old}")
-    return Change(file, text.index(old), text.index(old) + len(old), new)
+    start = 0
+    for it in [*after, old]:
+        place = text.find(it, start)
+        if not it or place < 0:
+            raise BadEdit(f"a text is not in {file}, or not after those of 'after:': {it}")
+        start = place + len(it)
+    return Change(file, start - len(old), start, new)
 
 
 def hold_to_code(crate: pathlib.Path, it: Change, stated: tuple[str, ...]) -> None:
