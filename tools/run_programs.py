@@ -69,7 +69,8 @@ AFTER_REFUSAL = {
     (NO_ROOM, "tlsdump: out of memory\n"),
     (2, "error: out of memory\n"),
 }
-# The least requests that are refused in the built program: the first, the second, the fourth, .., the 128th.
+# Which requests are refused in the built program: the first, the second, the fourth, .., the 4,096th. The least of them that end it.
+POWERS = 13
 LEAST_REFUSALS = 8
 
 
@@ -123,24 +124,22 @@ def is_refused() -> bool:
 
 
 def with_one_refused(program: pathlib.Path, run: pathlib.Path) -> tuple[bool, str]:
-    """Whether a built program prints nothing but why it ended, if its first request for memory is refused, its second, its fourth and so
-    on, up to one that it doesn't make, and how it ended each time."""
+    """Whether a built program prints nothing but why it ended, or all that it must, if its first request for memory is refused, its second,
+    its fourth and so on, and how it ended each time. Some it can do without."""
     ends: list[tuple[int, int, str, str]] = []
     with tempfile.TemporaryDirectory() as room:
         library = pathlib.Path(room, "refused_request.so")
         source = TOP / "tools" / "data" / "refused_request.c"
         subprocess.run(["cc", "-O2", "-fno-builtin", "-shared", "-fPIC", "-o", library, source], check=True)
-        for number in (1 << power for power in range(24)):
+        for number in (1 << power for power in range(POWERS)):
             with run.open("rb") as given:
                 environment = {"LD_PRELOAD": str(library), "REFUSED": str(number)}
                 ran = subprocess.run([program], env=environment, stdin=given, capture_output=True, text=True, timeout=60)
             ends.append((number, ran.returncode, ran.stdout, ran.stderr))
-            if ran.returncode == 0:
-                break
-    *refused, (_, *last) = ends
-    are_so = all(not printed and (status, said) in AFTER_REFUSAL for _, status, printed, said in refused)
-    is_whole = last == [0, run.with_suffix(".stdout").read_text(encoding="utf-8"), ""]
-    return are_so and is_whole and len(refused) >= LEAST_REFUSALS, "\n".join(map(str, ends))
+    whole = (0, run.with_suffix(".stdout").read_text(encoding="utf-8"), "")
+    refused = [it for _, *it in ends if tuple(it) != whole]
+    are_so = all(not printed and (status, said) in AFTER_REFUSAL for status, printed, said in refused)
+    return are_so and len(refused) >= LEAST_REFUSALS, "\n".join(map(str, ends))
 
 
 def as_stored(program: str) -> tuple[int, int]:
