@@ -63,8 +63,5 @@ fn boxed<T: Drop>(alloc: Global, value: T) -> Result<Box<T>, Error>
     ensures ok { IfOk result (λ b. b.value ≡ value) }
     ensures err { IfErr result (λ e. e ≡ OutOfMemory) }
 {
-    match Box::new(alloc, value) {
-        Ok(content) => Ok(content),
-        Err(_) => Err(Error::OutOfMemory),
-    }
+    Ok(Box::new(alloc, value)?)
 }

@@ -20,7 +20,7 @@
 //!   for a whole encoding.
 //! - [`texts`]: `String` and `&str`, by [`opaque`], bytes after their length.
 //! - [`laws`]: what is lawful if its parts are. [`refusals`]: where `TrailingData` and `InvalidVectorLength`
-//!   come from. Both do nothing when they run.
+//!   come from. Both do nothing when they run. [`rejections`]: errors that validators return too.
 #![tactic(auto)]
 
 pub mod arrays;
@@ -36,6 +36,7 @@ pub mod numbers;
 pub mod options;
 pub mod products;
 pub mod refusals;
+pub mod rejections;
 pub mod rooms;
 pub mod tags;
 pub mod texts;

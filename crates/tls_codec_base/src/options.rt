@@ -7,6 +7,7 @@ ghost use Rattle.tls_codec_grammar.specs.Tree.{option_plain};
 ghost use Rattle.tls_codec_grammar.specs.Format.{option_format};
 ghost use Rattle.tls_codec_grammar.specs.laws.FormatLaws.{option_meets};
 
+use crate::rejections::OTHER_TAG;
 use crate::traits::{Deserialize, DeserializeBytes, Serialize, SerializeBytes, Size};
 use std::alloc::Global;
 use tls_codec_wire::{Error, Sink, Source, read_exactly, write_all};
@@ -16,8 +17,6 @@ const NONE: u8 = 0;
 
 /// The payload follows it.
 const SOME: u8 = 1;
-
-const OTHER_TAG: Error = Error::DecodingError("option tag is not 0 or 1");
 
 impl<T: Size> Size for Option<T> {
     ghost plain = { option_plain T.plain };

@@ -6,12 +6,11 @@ ghost use Rattle.tls_codec_grammar.specs.Format.{text_format};
 ghost use Rattle.tls_codec_grammar.specs.laws.FormatLaws.{text_meets};
 ghost use Rattle.tls_codec_grammar.specs.Opaque.{TextRefused, TextSourceRefused};
 
+use crate::rejections::INVALID_UTF8;
 use crate::traits::{Deserialize, DeserializeBytes, Serialize, SerializeBytes, Size};
 use std::alloc::Global;
 use tls_codec_grammar::opaque;
 use tls_codec_wire::{Error, Sink, Source, TlsVarInt};
-
-const INVALID_UTF8: Error = Error::DecodingError("invalid utf8");
 
 impl Size for String {
     ghost plain = { λ s. number_trees (string_bytes s) };

@@ -45,7 +45,7 @@ pub fn places_give_their_bytes<F>()
 
 /// The four names have the encodings of a list of bytes whose length has one to four bytes (RFC
 /// 8446, section 3.4).
-pub fn byte_vecs_are_bytes_behind_one_to_four_bytes()
+pub fn byte_vecs_are_bytes_after_lengths_of_one_to_four_bytes()
     ensures one { (d : Direction) (b : List ℕ) (v : Tree)
         → ⟦<TlsByteVec<u8> as Size>⟧.format.spells d b v
         ↔ fixed_list 1 (number 1) d b v }

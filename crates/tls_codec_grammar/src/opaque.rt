@@ -144,10 +144,8 @@ pub fn push(content: &mut Vec<u8>, byte: u8) -> Result<(), Error>
         ≡ (if is_ok result then content.old.items ++ byte ∷ [] else content.old.items) }
     ensures err { IfErr result (λ e. e ≡ OutOfMemory) }
 {
-    match content.push(byte) {
-        Ok(()) => Ok(()),
-        Err(_) => Err(Error::OutOfMemory),
-    }
+    content.push(byte)?;
+    Ok(())
 }
 
 /// The bytes that the bytes to come encode. Only their encoding is taken.

@@ -48,7 +48,7 @@ pub fn cleared_secret_vectors_are_empty<F, T: Zeroize>()
 
 /// The four names have the encodings of a list whose length has one to four bytes (RFC 8446,
 /// section 3.4).
-pub fn secret_vectors_are_lists_behind_one_to_four_bytes<T: Size + Zeroize>()
+pub fn secret_vectors_are_lists_after_lengths_of_one_to_four_bytes<T: Size + Zeroize>()
     ensures one { (d : Direction) (b : List ℕ) (v : Tree)
         → ⟦<SecretTlsVec<u8, T> as Size>⟧.format.spells d b v
         ↔ fixed_list 1 T.format.spells d b v }

@@ -163,10 +163,8 @@ impl<F, T: Zeroize> SecretTlsVec<F, T> {
             ≡ (if is_ok result then elements_of self.old ++ value ∷ [] else elements_of self.old) }
         ensures err { IfErr result (λ e. e ≡ OutOfMemory) }
     {
-        match self.vec.push(value) {
-            Ok(()) => Ok(()),
-            Err(_) => Err(Error::OutOfMemory),
-        }
+        self.vec.push(value)?;
+        Ok(())
     }
 
     /// Keeps the elements for which the closure returns true, in their order. It is called once for

@@ -12,13 +12,9 @@ use crate::keys::Keyed;
 use crate::rejected::Rejected;
 use crate::traits::Validate;
 use crate::validate_for::ValidateFor;
+use tls_codec_base::rejections::{NO_BYTES, NOT_FILLED};
 use tls_codec_base::{Always, LengthField};
 use tls_codec_grammar::opaque::see_bytes;
-use tls_codec_wire::Error;
-
-const NO_BYTES: Error = Error::DecodingError("vector element consumed 0 bytes");
-
-const NOT_FILLED: Error = Error::DecodingError("elements do not fill the declared length");
 
 /// What is left after a length and the elements that it counts.
 #[inline(always)]

@@ -3,9 +3,8 @@ ghost use Rattle.tls_codec_validate.specs.Places.{option_places};
 
 use crate::rejected::Rejected;
 use crate::traits::Validate;
+use tls_codec_base::rejections::OTHER_TAG;
 use tls_codec_wire::Error;
-
-const OTHER_TAG: Error = Error::DecodingError("option tag is not 0 or 1");
 
 impl<T: Validate> Validate for Option<T> {
     ghost places = { option_places T.places };

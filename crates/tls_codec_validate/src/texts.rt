@@ -3,10 +3,9 @@ ghost use Rattle.tls_codec_validate.specs.Places.{here};
 
 use crate::rejected::Rejected;
 use crate::traits::Validate;
+use tls_codec_base::rejections::INVALID_UTF8;
 use tls_codec_base::{DeserializeBytes, opaque};
-use tls_codec_wire::{Error, TlsVarInt};
-
-const INVALID_UTF8: Error = Error::DecodingError("invalid utf8");
+use tls_codec_wire::TlsVarInt;
 
 impl Validate for String {
     ghost places = { here ⟦<String as DeserializeBytes>⟧.names };

@@ -25,9 +25,7 @@ pub fn collected<T: Drop, I: IntoIterator<Item = T>>(
 {
     let mut vec = Vec::new(alloc);
     for element in iter {
-        if vec.push(element).is_err() {
-            return Err(Error::OutOfMemory);
-        }
+        vec.push(element)?;
     }
     Ok(vec)
 }

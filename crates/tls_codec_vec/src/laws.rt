@@ -47,7 +47,7 @@ pub fn places_give_their_elements<F, T>()
 
 /// The four names have the encodings of a list whose length has one to four bytes (RFC 8446,
 /// section 3.4).
-pub fn vectors_are_lists_behind_one_to_four_bytes<T: Size>()
+pub fn vectors_are_lists_after_lengths_of_one_to_four_bytes<T: Size>()
     ensures one { (d : Direction) (b : List ℕ) (v : Tree)
         → ⟦<TlsVec<u8, T> as Size>⟧.format.spells d b v
         ↔ fixed_list 1 T.format.spells d b v }

@@ -46,13 +46,8 @@ impl<'a, T: Validate> Encoded<'a, T> {
             (λ r. IsTrailing T.format.spells bytes.now r
             ⊎ RejectedAt T.names T.places bytes.now r) }
     {
-        if let Err(rejected) = T::tls_validate(bytes) {
-            return Err(rejected);
-        }
-        Ok(Encoded {
-            bytes,
-            of: PhantomData,
-        })
+        T::tls_validate(bytes)?;
+        Ok(Encoded::from_proved(bytes))
     }
 
     /// The encoding that the bytes begin with, and what is left after it.
@@ -62,18 +57,9 @@ impl<'a, T: Validate> Encoded<'a, T> {
         ensures splits { SplitsEncoded T.format bytes.now result }
         ensures rejected { IfErr result (RejectedAt T.names T.places bytes.now) }
     {
-        let rest = match T::tls_validate_prefix(bytes) {
-            Ok(rest) => rest,
-            Err(rejected) => return Err(rejected),
-        };
+        let rest = T::tls_validate_prefix(bytes)?;
         let (front, after) = bytes.split_at(bytes.len().saturating_sub(rest.len()));
-        Ok((
-            Encoded {
-                bytes: front,
-                of: PhantomData,
-            },
-            after,
-        ))
+        Ok((Encoded::from_proved(front), after))
     }
 
     /// Bytes that are proved to be one encoding. They aren't validated again.

@@ -45,9 +45,7 @@ impl<'a, X: Keyed, T: ValidateFor<X>> EncodedFor<'a, X, T> {
             bytes.now r) }
     {
         let key = context.key();
-        if let Err(rejected) = T::tls_validate_for(&key, bytes) {
-            return Err(rejected);
-        }
+        T::tls_validate_for(&key, bytes)?;
         Ok(EncodedFor {
             key,
             bytes,

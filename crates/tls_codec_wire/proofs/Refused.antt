@@ -116,11 +116,11 @@ module _ {S : Type 0} {source : Ghosts S} where
 -- ---- faults
 
 -- a fault that isn't tried again
-pub fault_refuses : (text : Bor (List ℕ)) (row : ℕ) (start before after : Counts) (fault : Fault) (e : Error) (n : ℕ) (x : List ℕ) → text.now ≡ codes "read failed" → RoseBy row start.interruptions before.interruptions → OnlyInterrupted start before → FaultRaises fault before after
-    → ErrorOfFault fault row (DecodingError text) e → ReadRefused n x start after e
-fault_refuses text row start before after Interrupted e n x named rose retried raises (most, same) = subst (ReadRefused n x start after) (sym same) (named, inr (omega (arith, most, rose, raises.1)))
-fault_refuses text row start before after NoMemory e n x named rose retried raises same = subst (ReadRefused n x start after) (sym same) (omega (arith, retried.shortages, raises.2))
-fault_refuses text row start before after Failed e n x named rose retried raises same = subst (ReadRefused n x start after) (sym same) (named, inl (omega (arith, retried.failures, raises.0)))
+pub fault_refuses : (text : Bor (List ℕ)) (retries : ℕ) (start before after : Counts) (fault : Fault) (e : Error) (n : ℕ) (x : List ℕ) → text.now ≡ codes "read failed" → RoseBy retries start.interruptions before.interruptions → OnlyInterrupted start before → FaultRaises fault before after
+    → ErrorOfFault fault retries (DecodingError text) e → ReadRefused n x start after e
+fault_refuses text retries start before after Interrupted e n x named rose retried raises (most, same) = subst (ReadRefused n x start after) (sym same) (named, inr (omega (arith, most, rose, raises.1)))
+fault_refuses text retries start before after NoMemory e n x named rose retried raises same = subst (ReadRefused n x start after) (sym same) (omega (arith, retried.shortages, raises.2))
+fault_refuses text retries start before after Failed e n x named rose retried raises same = subst (ReadRefused n x start after) (sym same) (named, inl (omega (arith, retried.failures, raises.0)))
 
 -- bytes that are not read are not gathered
 pub not_gathered : (n : ℕ) (x : List ℕ) (old new : Counts) (e : Error) → ReadRefused n x old new e → BytesRefused n x old new e

@@ -14,9 +14,9 @@ IsShortOf n (Some xs) = length xs < n
 
 -- the error of a fault after this number of interruptions in a row, if not retried: 16 are tried
 abbrev pub ErrorOfFault : Fault → ℕ → Error → Error → Type 0
-ErrorOfFault Interrupted row failed e = (16 ≤ row) × (e ≡ failed)
-ErrorOfFault NoMemory row failed e = e ≡ OutOfMemory
-ErrorOfFault Failed row failed e = e ≡ failed
+ErrorOfFault Interrupted retries failed e = (16 ≤ retries) × (e ≡ failed)
+ErrorOfFault NoMemory retries failed e = e ≡ OutOfMemory
+ErrorOfFault Failed retries failed e = e ≡ failed
 
 -- n bytes were to be moved: for each 16 interruptions at most were counted, and one more on a refusal
 abbrev pub TriedWithin : {A : Type 0} → ℕ → Counts → Counts → Result A Error → Type 0

@@ -4,7 +4,7 @@ ghost use Rattle.tls_codec_wire.specs.Names.{name_of};
 ghost use Rattle.tls_codec_wire.specs.Foreign.{ErrorOfIo};
 ghost use Rattle.tls_codec_wire.specs.declared.error.Error.TheVariants.{InvalidInput, InvalidVectorLength, OutOfMemory};
 
-use std::alloc::AllocError;
+use std::alloc::{AllocError, AllocFailed};
 use std::array::TryFromSliceError;
 use std::io::ErrorKind;
 use std::num::TryFromIntError;
@@ -18,9 +18,9 @@ use std::{fmt, io};
 pub enum Error {
     /// A value could not be written, also if the sink failed.
     EncodingError(&'static str),
-    /// A length or a variable-length integer has more bytes than it needs, or is above the greatest of
-    /// its field. Or a list's content passes its length field, or a vector would pass `isize::MAX`
-    /// bytes.
+    /// Decoding: a length or a variable-length integer isn't in its shortest form, or is above the
+    /// greatest that its field admits. Encoding: a content is longer than its length field can say. Both:
+    /// a vector would have more than `isize::MAX` bytes.
     InvalidVectorLength,
     /// No call in Rattle returns it. Callers in other languages get it if their buffer is too
     /// small.
@@ -33,7 +33,7 @@ pub enum Error {
     EndOfStream,
     /// All bytes were to be used, and a byte is left.
     TrailingData,
-    /// No case of an enum has this tag.
+    /// No variant of an enum has this tag.
     UnknownValue(u64),
     /// A number is too large for the type it was to become.
     LibraryError,
@@ -73,6 +73,14 @@ impl From<AllocError> for Error {
     ghost from_gives = { λ _ e. e ≡ OutOfMemory };
 
     fn from(_e: AllocError) -> Error {
+        Error::OutOfMemory
+    }
+}
+
+impl<T: Drop> From<AllocFailed<T>> for Error {
+    ghost from_gives = { λ _ e. e ≡ OutOfMemory };
+
+    fn from(_e: AllocFailed<T>) -> Error {
         Error::OutOfMemory
     }
 }

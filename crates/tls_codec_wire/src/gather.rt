@@ -110,7 +110,7 @@ pub fn gather<R: Source>(src: &mut R, bytes: &mut Vec<u8>, len: usize) -> Result
     ensures tried { TriedWithin len (R.counts src.old) (R.counts src.new) result }
 {
     let mut came = 0;
-    let mut row = 0;
+    let mut retries = 0;
     while came < len {
         let step = (len - came).min(next_chunk_len(came, src.at_hand()));
         bytes.reserve_exact(step)?;
@@ -118,9 +118,13 @@ pub fn gather<R: Source>(src: &mut R, bytes: &mut Vec<u8>, len: usize) -> Result
             Ok(0) => return Err(Error::EndOfStream),
             Ok(n) => {
                 came += n;
-                row = 0;
+                retries = 0;
             }
-            Err(fault) => row = after_fault(fault, row, Error::DecodingError("read failed"))?,
+            Err(fault) => retries = after_fault(
+                fault,
+                retries,
+                Error::DecodingError("read failed"),
+            )?,
         }
     }
     Ok(())

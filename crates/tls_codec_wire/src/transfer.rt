@@ -68,15 +68,19 @@ fn read_as_it_comes<R: Source>(src: &mut R, into: &mut [u8]) -> Result<(), Error
     ensures nothing_asked { length into.old ≡ 0 → (result ≡ Ok tt) × (src.new ≡ src.old) }
 {
     let mut at = 0;
-    let mut row = 0;
+    let mut retries = 0;
     while at < into.len() {
         match src.pull(&mut into[at..]) {
             Ok(0) => return Err(Error::EndOfStream),
             Ok(n) => {
                 at += n;
-                row = 0;
+                retries = 0;
             }
-            Err(fault) => row = after_fault(fault, row, Error::DecodingError("read failed"))?,
+            Err(fault) => retries = after_fault(
+                fault,
+                retries,
+                Error::DecodingError("read failed"),
+            )?,
         }
     }
     Ok(())
@@ -128,15 +132,19 @@ pub fn write_all<W: Sink>(sink: &mut W, bytes: &[u8]) -> Result<(), Error>
     ensures nothing_sent { length bytes.now ≡ 0 → (result ≡ Ok tt) × (sink.new ≡ sink.old) }
 {
     let mut at = 0;
-    let mut row = 0;
+    let mut retries = 0;
     while at < bytes.len() {
         match sink.give(&bytes[at..]) {
             Ok(0) => return Err(Error::EncodingError("write failed")),
             Ok(n) => {
                 at += n;
-                row = 0;
+                retries = 0;
             }
-            Err(fault) => row = after_fault(fault, row, Error::EncodingError("write failed"))?,
+            Err(fault) => retries = after_fault(
+                fault,
+                retries,
+                Error::EncodingError("write failed"),
+            )?,
         }
     }
     Ok(())
@@ -145,12 +153,12 @@ pub fn write_all<W: Sink>(sink: &mut W, bytes: &[u8]) -> Result<(), Error>
 // How many interruptions in a row there are after a fault that is tried again. Else the error that it is:
 // `failed`, unless it ran out of memory.
 #[inline(always)]
-pub(crate) fn after_fault(fault: Fault, row: u8, failed: Error) -> Result<u8, Error>
-    ensures ok { IfOk result (λ next. (fault ≡ Interrupted) × (row < 16) × (next ≡ row + 1)) }
-    ensures err { IfErr result (ErrorOfFault fault row failed) }
+pub(crate) fn after_fault(fault: Fault, retries: u8, failed: Error) -> Result<u8, Error>
+    ensures ok { IfOk result (λ next. (fault ≡ Interrupted) × (retries < 16) × (next ≡ retries + 1)) }
+    ensures err { IfErr result (ErrorOfFault fault retries failed) }
 {
     match fault {
-        Fault::Interrupted if row < MAX_INTERRUPTIONS => Ok(row + 1),
+        Fault::Interrupted if retries < MAX_INTERRUPTIONS => Ok(retries + 1),
         Fault::NoMemory => Err(Error::OutOfMemory),
         _ => Err(failed),
     }

@@ -26,20 +26,7 @@ pub fn fits_condition<T: Size>(there: bool, value: &Option<T>) -> bool
         → present there T.format.spells d bytes (option_plain T.plain value.now)
         → ⊥ }
 {
-    match value {
-        None => {
-            if there {
-                return false;
-            }
-            true
-        }
-        Some(_) => {
-            if there {
-                return true;
-            }
-            false
-        }
-    }
+    value.is_some() == there
 }
 
 /// The number of bytes of a payload's canonical encoding, saturated at `usize::MAX`; 0 if there is

@@ -20,10 +20,10 @@ const LIKELY_LENGTH: usize = 64;
 
 /// For how many bytes of elements room is requested at once, if they have no one width: those of no bytes
 /// need none.
-const MOST_ROOM: usize = 1 << 16;
+const MAX_ROOM: usize = 1 << 16;
 
 /// A gap for a length is left only after this many bytes or fewer.
-const MOST_BEHIND: usize = 1 << 61;
+const MAX_BEFORE_GAP: usize = 1 << 61;
 
 /// What [`announced_len`](crate::counted::announced_len) does.
 pub(crate) fn announced_len<F: LengthField, T, K: ElementCoding<T>>(
@@ -118,7 +118,7 @@ pub(crate) fn likely_width<F: LengthField, T, K: ElementCoding<T>>(
 ) -> usize
     ensures { IsSafeGap at result }
 {
-    if at > MOST_BEHIND {
+    if at > MAX_BEFORE_GAP {
         return 0;
     }
     // If the number is a constant, so is its width.
@@ -144,8 +144,8 @@ pub(crate) fn bytes_to_reserve<T, K: ElementCoding<T>>(
     let count = elements.len();
     match coding.fixed_len() {
         Some(each) => count.saturating_mul(each),
-        None if at == 0 => count.saturating_mul(LIKELY_LENGTH).min(MOST_ROOM),
-        None => count.min(MOST_ROOM),
+        None if at == 0 => count.saturating_mul(LIKELY_LENGTH).min(MAX_ROOM),
+        None => count.min(MAX_ROOM),
     }
 }
 

@@ -43,11 +43,8 @@ impl Serialize for u8 {
 
     #[inline(always)]
     fn tls_serialize_into(&self, out: &mut Vec<u8>) -> Result<usize, Error> {
-        let byte = *self;
-        match out.push(byte) {
-            Ok(()) => Ok(1),
-            Err(_) => Err(Error::OutOfMemory),
-        }
+        out.push(*self)?;
+        Ok(1)
     }
 }
 

@@ -6,16 +6,14 @@ ghost use Rattle.tls_codec_grammar.specs.Format.{content_format, sized_format};
 ghost use Rattle.tls_codec_grammar.specs.Decoding.{Named, Reads, Splits};
 ghost use Rattle.tls_codec_base.specs.Refusals.{elements_names, elements_source_names};
 ghost use Rattle.tls_codec_base.specs.Filling.{FillsLimit};
+ghost use Rattle.tls_codec_wire.specs.declared.error.Error.TheVariants.{OutOfMemory};
 ghost use Rattle.tls_codec_base.specs.Turns.{SourceTurnedRefused, TurnedEach, TurnedRefused, TurnedWithin, TurnedWithinGiven};
 
 use crate::lists::Turns;
 use crate::lists::engines::coding::{ElementReader, ElementSplitter};
+use crate::rejections::{NO_BYTES, NOT_FILLED};
 use std::alloc::{AllocError, Global};
 use tls_codec_wire::{Bounded, Error, Source};
-
-const NO_BYTES: Error = Error::DecodingError("vector element consumed 0 bytes");
-
-const NOT_FILLED: Error = Error::DecodingError("elements do not fill the declared length");
 
 /// How many elements a list has room for once it has one.
 const FIRST_ROOM: usize = 4;
@@ -60,9 +58,7 @@ pub(crate) fn split<'a, T: Drop, K: ElementSplitter<T>>(
         if taken > left {
             return Err(NOT_FILLED);
         }
-        if push_element(&mut elements, element).is_err() {
-            return Err(Error::OutOfMemory);
-        }
+        push_element(&mut elements, element)?;
         left -= taken;
         rest = behind;
     }
@@ -136,18 +132,17 @@ fn each_within<T: Drop, K: ElementReader<T>, R: Source>(
         if within.limit() == before {
             return Err(NO_BYTES);
         }
-        if push_element(&mut elements, element).is_err() {
-            return Err(Error::OutOfMemory);
-        }
+        push_element(&mut elements, element)?;
     }
     Ok(elements)
 }
 
 // Appends an element. Room is checked once, and the first is requested without a call.
 #[inline(always)]
-fn push_element<T: Drop>(elements: &mut Vec<T>, element: T) -> Result<(), AllocError>
+fn push_element<T: Drop>(elements: &mut Vec<T>, element: T) -> Result<(), Error>
     ensures pushed { elements.new.items
         ≡ (if is_ok result then elements.old.items ++ element ∷ [] else elements.old.items) }
+    ensures err { IfErr result (λ e. e ≡ OutOfMemory) }
     ensures first_room { vec_capacity elements.old ≡ 0
         → OnOk result (vec_capacity elements.new ≡ 4) }
     ensures room { vec_len elements.old < vec_capacity elements.old

@@ -20,12 +20,12 @@ returns-in-Ok-eq0-clause-refused g c =
     ended _ _ source.gives_nothing source.gives_in_order c.loop-came.invariant.came.held (subst (λ (u : List ℕ). g.R.Source.given c.loop-came.src u c.pull_onto.new.self) none pulled.held)
     (c.in-Ok-eq0.ensures.end (ap Ok c.in-Ok-eq0.field-0-test) (search rules) (search rules)) (search rules)
 
-pub returns-in_err-row-in-Err-clause-refused : goal.returns-in_err-row-in-Err-clause-refused
-returns-in_err-row-in-Err-clause-refused g c =
+pub returns-in_err-retries-in-Err-clause-refused : goal.returns-in_err-retries-in-Err-clause-refused
+returns-in_err-retries-in-Err-clause-refused g c =
     let source = g.met.R.Source in
-    let p = err_from_is_err_and c.from_residual-in_err-row-in-Err.result c.from_residual-in_err-row-in-Err.ensures.1 in
+    let p = err_from_is_err_and c.from_residual-in_err-retries-in-Err.result c.from_residual-in_err-retries-in-Err.ensures.1 in
     rw (p.1, p.2) (refused_now _ source.gives_nothing (source.gives_in_order _ _ _ _ _ c.loop-came.invariant.came.held c.pull_onto.ensures.gave.held)
-    (λ rest. not_gathered _ _ _ _ _ (fault_refuses _ _ _ _ _ c.in-Err.fault _ _ _ refl c.loop-came.invariant.counted c.loop-came.invariant.retried c.in-Err.ensures.counted c.in_err-row-in-Err.ensures.err)))
+    (λ rest. not_gathered _ _ _ _ _ (fault_refuses _ _ _ _ _ c.in-Err.fault _ _ _ refl c.loop-came.invariant.counted c.loop-came.invariant.retried c.in-Err.ensures.counted c.in_err-retries-in-Err.ensures.err)))
 
 -- what a call moved comes after what the calls before it moved
 pulled_then : {S : Type 0} {given : Gives S} {a b c : S} {m k : ℕ} {r : Result ℕ Fault} {us vs ws xs : List ℕ} → GivesInOrder given
@@ -39,19 +39,19 @@ pulled_then {S} {given} {a} {b} {c} {m} {k} {r} {us} {vs} {ws} {xs} order p same
 }
 
 -- bytes that came bring the end nearer
-nearer : (len came n row : ℕ) → (n ≡ 0 → ⊥) → came + n ≤ len → row ≤ 16
-    → 17 * (len - (came + n)) + (16 - 0) < 17 * (len - came) + (16 - row)
-nearer len came n row some within few = omega arith
+nearer : (len came n retries : ℕ) → (n ≡ 0 → ⊥) → came + n ≤ len → retries ≤ 16
+    → 17 * (len - (came + n)) + (16 - 0) < 17 * (len - came) + (16 - retries)
+nearer len came n retries some within few = omega arith
 
 -- an interruption brings the end of its row nearer
-nearer_in_row : (len came row : ℕ) → row < 16
-    → 17 * (len - came) + (16 - (row + 1)) < 17 * (len - came) + (16 - row)
-nearer_in_row len came row few = omega arith
+nearer_in_row : (len came retries : ℕ) → retries < 16
+    → 17 * (len - came) + (16 - (retries + 1)) < 17 * (len - came) + (16 - retries)
+nearer_in_row len came retries few = omega arith
 
 pub loop-came-init : goal.loop-came-init
 loop-came-init g c = record {
   within = omega arith;
-  row = omega arith;
+  retries = omega arith;
   came = record { bytes = []; held = g.met.R.Source.gives_nothing _; appended = search rules; count = refl };
   retried = only_interrupted_refl _;
   counted = omega arith;
@@ -62,22 +62,22 @@ loop-came-init g c = record {
 pub loop-came-preserved-in-Ok : goal.loop-came-preserved-in-Ok
 loop-came-preserved-in-Ok g c = record {
   within = omega (arith, c.in-Ok.ensures.bound, c.min-step.ensures);
-  row = omega arith;
+  retries = omega arith;
   came = pulled_then g.met.R.Source.gives_in_order c.loop-came.invariant.came (c.in_ok-reserve_exact.ensures.items) c.in-Ok.ensures.gave refl;
   retried = search rules;
   counted = omega (arith, c.loop-came.invariant.counted, c.in-Ok.ensures.counted.1);
-  tried = omega (arith, c.loop-came.invariant.tried, c.loop-came.invariant.row, c.in-Ok.ensures.counted.1);
+  tried = omega (arith, c.loop-came.invariant.tried, c.loop-came.invariant.retries, c.in-Ok.ensures.counted.1);
   gathered = λ all. refl;
 }
 
 pub loop-came-smaller-in-Ok : goal.loop-came-smaller-in-Ok
 loop-came-smaller-in-Ok g c =
-    nearer _ _ _ _ c.in-Ok.n-test.1 (omega (arith, c.in-Ok.ensures.bound, c.min-step.ensures)) c.loop-came.invariant.row
+    nearer _ _ _ _ c.in-Ok.n-test.1 (omega (arith, c.in-Ok.ensures.bound, c.min-step.ensures)) c.loop-came.invariant.retries
 
 pub loop-came-preserved : goal.loop-came-preserved
 loop-came-preserved g c = record {
   within = c.loop-came.invariant.within;
-  row = search rules;
+  retries = search rules;
   came = pulled_then g.met.R.Source.gives_in_order c.loop-came.invariant.came (c.in_ok-reserve_exact.ensures.items) c.in-Err.ensures.gave (omega arith);
   retried = search rules;
   counted = search rules;
@@ -98,8 +98,8 @@ pub returns-in-Ok-eq0-clause-came : goal.returns-in-Ok-eq0-clause-came
 returns-in-Ok-eq0-clause-came g c =
     came_then g.met.R.Source.gives_in_order c.loop-came.invariant.came c.in_ok-reserve_exact.ensures.items c.in-Ok-eq0.ensures.gave
 
-pub returns-in_err-row-in-Err-clause-came : goal.returns-in_err-row-in-Err-clause-came
-returns-in_err-row-in-Err-clause-came g c =
+pub returns-in_err-retries-in-Err-clause-came : goal.returns-in_err-retries-in-Err-clause-came
+returns-in_err-retries-in-Err-clause-came g c =
     came_then g.met.R.Source.gives_in_order c.loop-came.invariant.came c.in_ok-reserve_exact.ensures.items c.in-Err.ensures.gave
 
 pub returns-clause-tried : goal.returns-clause-tried

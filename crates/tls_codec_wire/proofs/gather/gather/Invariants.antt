@@ -7,14 +7,14 @@ use Rattle.tls_codec_wire.proofs.gather.gather.Given as goal
 abbrev pub invariant-loop-came : goal.invariant-loop-came
 invariant-loop-came g l = record {
   within : l.came ≤ l.len;
-  row : l.row ≤ 16;
+  retries : l.retries ≤ 16;
   came : PulledOnto g.R.Source.given l.fn.src l.src (Ok l.came) l.fn.bytes.items l.bytes.items;
   retried : OnlyInterrupted (g.R.Source.counts l.fn.src) (g.R.Source.counts l.src);
-  counted : RoseBy l.row (g.R.Source.counts l.fn.src).interruptions (g.R.Source.counts l.src).interruptions;
-  tried : (g.R.Source.counts l.src).interruptions ≤ (g.R.Source.counts l.fn.src).interruptions + (16 * l.came + l.row);
-  gathered : l.len ≤ l.came → l.row ≡ 0;
+  counted : RoseBy l.retries (g.R.Source.counts l.fn.src).interruptions (g.R.Source.counts l.src).interruptions;
+  tried : (g.R.Source.counts l.src).interruptions ≤ (g.R.Source.counts l.fn.src).interruptions + (16 * l.came + l.retries);
+  gathered : l.len ≤ l.came → l.retries ≡ 0;
 }
 
 -- a byte brings the end nearer, and an interruption the end of its row
 abbrev pub decreases-loop-came : goal.decreases-loop-came
-decreases-loop-came g l = 17 * (l.len - l.came) + (16 - l.row)
+decreases-loop-came g l = 17 * (l.len - l.came) + (16 - l.retries)

@@ -7,16 +7,16 @@ use Rattle.tls_codec_wire.proofs.transfer.read_as_it_comes.Given as goal
 abbrev pub invariant-loop-at : goal.invariant-loop-at
 invariant-loop-at g l = record {
   within : l.at ≤ length l.into;
-  row : l.row ≤ 16;
+  retries : l.retries ≤ 16;
   gave : g.R.Source.given l.fn.src (take l.at l.into) l.src;
   retried : OnlyInterrupted (g.R.Source.counts l.fn.src) (g.R.Source.counts l.src);
-  counted : RoseBy l.row (g.R.Source.counts l.fn.src).interruptions (g.R.Source.counts l.src).interruptions;
+  counted : RoseBy l.retries (g.R.Source.counts l.fn.src).interruptions (g.R.Source.counts l.src).interruptions;
   bytes : AreBytes l.into;
-  tried : (g.R.Source.counts l.src).interruptions ≤ (g.R.Source.counts l.fn.src).interruptions + (16 * l.at + l.row);
-  moved : length l.into ≤ l.at → l.row ≡ 0;
+  tried : (g.R.Source.counts l.src).interruptions ≤ (g.R.Source.counts l.fn.src).interruptions + (16 * l.at + l.retries);
+  moved : length l.into ≤ l.at → l.retries ≡ 0;
   untouched : length l.into ≡ 0 → l.src ≡ l.fn.src;
 }
 
 -- a byte brings the end nearer, and an interruption the end of its row
 abbrev pub decreases-loop-at : goal.decreases-loop-at
-decreases-loop-at g l = 17 * (length l.initial.into - l.at) + (16 - l.row)
+decreases-loop-at g l = 17 * (length l.initial.into - l.at) + (16 - l.retries)

@@ -14,11 +14,11 @@ loop-at-preserved-in-Ok g c =
     let counted = c.in-Ok.ensures.counted in
     record {
       within = search rules;
-      row = search rules;
+      retries = search rules;
       took = appends_more _ _ _ c.loop-at.at c.in-Ok.n _ c.loop-at.invariant.took c.in-Ok.ensures.took;
       retried = search rules;
       counted = omega (arith, c.loop-at.invariant.counted, counted.3);
-      tried = omega (arith, c.loop-at.invariant.tried, c.loop-at.invariant.row, counted.3);
+      tried = omega (arith, c.loop-at.invariant.tried, c.loop-at.invariant.retries, counted.3);
       moved = λ all. refl;
       untouched = λ none. absurd (omega arith);
     }
@@ -26,7 +26,7 @@ loop-at-preserved-in-Ok g c =
 pub loop-at-init : goal.loop-at-init
 loop-at-init g c = record {
   within = omega arith;
-  row = omega arith;
+  retries = omega arith;
   took = search rules;
   retried = only_interrupted_refl _;
   counted = omega arith;
@@ -42,7 +42,7 @@ appends_none a b c bytes p q = subst (Appends a c) (append-nil bytes) (Appends-t
 pub loop-at-preserved : goal.loop-at-preserved
 loop-at-preserved g c = record {
   within = c.loop-at.invariant.within;
-  row = search rules;
+  retries = search rules;
   took = appends_none _ _ _ _ c.loop-at.invariant.took c.in-Err.ensures.took;
   retried = search rules;
   counted = search rules;
@@ -51,8 +51,8 @@ loop-at-preserved g c = record {
   untouched = λ none. absurd (omega arith);
 }
 
-pub returns-in_err-row-in-Err-clause-beginning : goal.returns-in_err-row-in-Err-clause-beginning
-returns-in_err-row-in-Err-clause-beginning g c =
+pub returns-in_err-retries-in-Err-clause-beginning : goal.returns-in_err-retries-in-Err-clause-beginning
+returns-in_err-retries-in-Err-clause-beginning g c =
     received_more _ _ _ c.loop-at.at _ _ c.loop-at.invariant.took c.give.ensures.took
 
 pub returns-clause-tried : goal.returns-clause-tried

@@ -63,13 +63,14 @@ returns-then-limit-before g c =
     (λ x q. inr (none_after_hollow _ _ lawful _ hollow))
     (given_inside source.gives_nothing element)
 
-pub returns-then-is_err : goal.returns-then-is_err
-returns-then-is_err g c =
+pub returns-in_err-push_element : goal.returns-in_err-push_element
+returns-in_err-push_element g c =
+    let p = err_from_is_err_and c.from_residual-in_err-push_element.result c.from_residual-in_err-push_element.ensures.1 in
     let source = g.met.R.Source in
     let before = c.elements.invariant in
     let element = c.in_ok-element.ensures.reads in
     let lawful = (g.met.K.ElementCoding.lawful c.args.coding.now).spelled in
-    not_filled (g.K.ElementCoding.format c.args.coding.now) g.K.ElementCoding.plain (g.K.ElementReader.names c.args.coding.now)
+    rw (p.1, p.2, c.in_err-push_element.ensures.err) (not_filled (g.K.ElementCoding.format c.args.coding.now) g.K.ElementCoding.plain (g.K.ElementReader.names c.args.coding.now)
     lawful source.gives_in_order source.no_count_falls c.elements.elements.items before.same before.read
     (omega (arith, c.limit.ensures))
     (omega (arith, before.turned, c.turn.ensures))
@@ -77,7 +78,7 @@ returns-then-is_err g c =
     (list_without_memory (g.K.ElementCoding.format c.args.coding.now) (g.K.ElementReader.names c.args.coding.now) lawful source.gives_in_order source.no_count_falls
     before.read refl (given_inside source.gives_nothing element))
     (λ x q. inl (inl refl))
-    (given_inside source.gives_nothing element)
+    (given_inside source.gives_nothing element))
 
 pub returns : goal.returns
 returns g c =

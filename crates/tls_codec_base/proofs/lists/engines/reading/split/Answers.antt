@@ -53,9 +53,10 @@ pub returns-then-taken-left-clause-named : goal.returns-then-taken-left-clause-n
 returns-then-taken-left-clause-named g c =
     element_named (g.K.ElementCoding.format c.args.coding.now) (g.K.ElementSplitter.names c.args.coding.now) c.loop-left.invariant.read (omega arith) (inr (inr (inl (refl, found_long c.in_ok-element.ensures.splits (omega arith)))))
 
-pub returns-then-is_err-clause-named : goal.returns-then-is_err-clause-named
-returns-then-is_err-clause-named g c =
-    element_named (g.K.ElementCoding.format c.args.coding.now) (g.K.ElementSplitter.names c.args.coding.now) c.loop-left.invariant.read (omega arith) (inr (inr (inr (refl, record { value = _; rest = _; begins = c.in_ok-element.ensures.splits }))))
+pub returns-in_err-push_element-clause-named : goal.returns-in_err-push_element-clause-named
+returns-in_err-push_element-clause-named g c =
+    let p = err_from_is_err_and c.from_residual-in_err-push_element.result c.from_residual-in_err-push_element.ensures.1 in
+    rw (p.1, p.2, c.in_err-push_element.ensures.err) (element_named (g.K.ElementCoding.format c.args.coding.now) (g.K.ElementSplitter.names c.args.coding.now) c.loop-left.invariant.read (omega arith) (inr (inr (inr (refl, record { value = _; rest = _; begins = c.in_ok-element.ensures.splits })))))
 
 pub returns-in_err-elements-clause-named : goal.returns-in_err-elements-clause-named
 returns-in_err-elements-clause-named g c =
@@ -75,9 +76,10 @@ pub returns-then-taken-left-clause-turned_if_refused : goal.returns-then-taken-l
 returns-then-taken-left-clause-turned_if_refused g c =
     refused_turned _ _ (g.met.K.ElementCoding.lawful c.args.coding.now).spelled g.K.ElementCoding.plain c.loop-left.elements.items c.loop-left.invariant.read (omega (arith, c.loop-left.invariant.turned, c.turn.ensures)) (inr (none_fits _ _ (g.met.K.ElementCoding.lawful c.args.coding.now).spelled c.in_ok-element.ensures.splits (omega arith)))
 
-pub returns-then-is_err-clause-turned_if_refused : goal.returns-then-is_err-clause-turned_if_refused
-returns-then-is_err-clause-turned_if_refused g c =
-    refused_turned _ _ (g.met.K.ElementCoding.lawful c.args.coding.now).spelled g.K.ElementCoding.plain c.loop-left.elements.items c.loop-left.invariant.read (omega (arith, c.loop-left.invariant.turned, c.turn.ensures)) (inl refl)
+pub returns-in_err-push_element-clause-turned_if_refused : goal.returns-in_err-push_element-clause-turned_if_refused
+returns-in_err-push_element-clause-turned_if_refused g c =
+    let p = err_from_is_err_and c.from_residual-in_err-push_element.result c.from_residual-in_err-push_element.ensures.1 in
+    rw (p.1, p.2, c.in_err-push_element.ensures.err) (refused_turned _ _ (g.met.K.ElementCoding.lawful c.args.coding.now).spelled g.K.ElementCoding.plain c.loop-left.elements.items c.loop-left.invariant.read (omega (arith, c.loop-left.invariant.turned, c.turn.ensures)) (inl refl))
 
 pub returns-in-Some-clause-turned_at_most : goal.returns-in-Some-clause-turned_at_most
 returns-in-Some-clause-turned_at_most g c = at_once_within (g.K.ElementCoding.format c.args.coding.now) g.K.ElementCoding.plain _ _ _ c.in-Some.elements c.in_ok-elements.ensures c.in-Some.is (omega arith) (omega arith) (omega (arith, c.turn_by.ensures, c.len.ensures))
@@ -91,14 +93,16 @@ returns-then-taken-eq0-clause-turned_at_most g c = turned_within g.K.ElementCodi
 pub returns-then-taken-left-clause-turned_at_most : goal.returns-then-taken-left-clause-turned_at_most
 returns-then-taken-left-clause-turned_at_most g c = turned_within g.K.ElementCoding.plain c.loop-left.elements.items 1 c.loop-left.invariant.read (omega (arith, c.loop-left.invariant.turned, c.turn.ensures)) (omega arith)
 
-pub returns-then-is_err-clause-turned_at_most : goal.returns-then-is_err-clause-turned_at_most
-returns-then-is_err-clause-turned_at_most g c = turned_within g.K.ElementCoding.plain c.loop-left.elements.items 1 c.loop-left.invariant.read (omega (arith, c.loop-left.invariant.turned, c.turn.ensures)) (omega arith)
+pub returns-in_err-push_element-clause-turned_at_most : goal.returns-in_err-push_element-clause-turned_at_most
+returns-in_err-push_element-clause-turned_at_most g c = turned_within g.K.ElementCoding.plain c.loop-left.elements.items 1 c.loop-left.invariant.read (omega (arith, c.loop-left.invariant.turned, c.turn.ensures)) (omega arith)
 
 pub returns-clause-turned_at_most : goal.returns-clause-turned_at_most
 returns-clause-turned_at_most g c = turned_within g.K.ElementCoding.plain c.loop-left.elements.items 0 c.loop-left.invariant.read (omega (arith, c.loop-left.invariant.turned)) (omega arith)
 
-pub returns-then-is_err-clause-splits : goal.returns-then-is_err-clause-splits
-returns-then-is_err-clause-splits g c = record { cause = inr refl; memory = λ h. refl }
+pub returns-in_err-push_element-clause-splits : goal.returns-in_err-push_element-clause-splits
+returns-in_err-push_element-clause-splits g c =
+    let p = err_from_is_err_and c.from_residual-in_err-push_element.result c.from_residual-in_err-push_element.ensures.1 in
+    rw (p.1, p.2, c.in_err-push_element.ensures.err) (record { cause = inr refl; memory = λ h. refl })
 
 pub returns-clause-splits : goal.returns-clause-splits
 returns-clause-splits g c =
@@ -120,8 +124,8 @@ returns-then-taken-eq0-clause-nothing_asked g c none = absurd (omega (arith, non
 pub returns-then-taken-left-clause-nothing_asked : goal.returns-then-taken-left-clause-nothing_asked
 returns-then-taken-left-clause-nothing_asked g c none = absurd (omega (arith, none, c.loop-left.invariant.read.fills))
 
-pub returns-then-is_err-clause-nothing_asked : goal.returns-then-is_err-clause-nothing_asked
-returns-then-is_err-clause-nothing_asked g c none = absurd (omega (arith, none, c.loop-left.invariant.read.fills))
+pub returns-in_err-push_element-clause-nothing_asked : goal.returns-in_err-push_element-clause-nothing_asked
+returns-in_err-push_element-clause-nothing_asked g c none = absurd (omega (arith, none, c.loop-left.invariant.read.fills))
 
 pub returns-clause-nothing_asked : goal.returns-clause-nothing_asked
 returns-clause-nothing_asked g c none =
