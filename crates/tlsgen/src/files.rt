@@ -73,7 +73,7 @@ pub fn compare_with<R: Print + AllocGlobal + Alloc + Files + Clone + Drop>(
 }
 
 // The most folders of a crate that are looked into.
-const MOST_FOLDERS: usize = 100_000;
+const MAX_FOLDERS: usize = 100_000;
 
 // A file of a crate's folder that isn't written, by its path there.
 fn stale_file<R: AllocGlobal + Alloc + Files + Clone + Drop>(
@@ -90,7 +90,7 @@ fn stale_file<R: AllocGlobal + Alloc + Files + Clone + Drop>(
     for part in ["src", "specs", "proofs"] {
         left.push(String::from_str(alloc, part)?)?;
     }
-    for _ in 0..MOST_FOLDERS {
+    for _ in 0..MAX_FOLDERS {
         let Some(inner) = left.pop() else {
             break;
         };

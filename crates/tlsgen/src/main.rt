@@ -42,24 +42,13 @@ fn main(rt: HostRuntime) -> anyhow::Result<ExitCode> {
             return Ok(ExitCode::from(error.exit_code() as u8));
         }
     };
-    let input = matches.get_str("INPUT").unwrap_or("");
-    let name = matches.get_str("crate").unwrap_or("");
     let mut texts = Texts::new(alloc);
-    if !is_named(&rt, "--crate", name)? || !are_folders(&rt, &matches)? {
-        return Ok(ExitCode::from(REFUSED));
-    }
-    if !add_others(&rt, &mut texts, matches.get_strs("with").unwrap_or(&[]))? {
-        return Ok(ExitCode::from(REFUSED));
-    }
-    if !add(&rt, &mut texts, input, matches.get_str("notes"))? {
-        return Ok(ExitCode::from(REFUSED));
-    }
-    let Some(plan) = plan(&rt, &mut texts)? else {
+    let Some(plan) = planned(&rt, &mut texts, &matches)? else {
         return Ok(ExitCode::from(REFUSED));
     };
     let written = files_of(
         alloc,
-        name,
+        matches.get_str("crate").unwrap_or(""),
         texts.crates.as_slice(),
         texts.heading.as_str(),
         &plan,
@@ -71,6 +60,27 @@ fn main(rt: HostRuntime) -> anyhow::Result<ExitCode> {
         return files::compare_with(&rt, folder, written.as_slice());
     }
     files::print(&rt, written.as_slice())
+}
+
+/// The plan of the crate that the words ask for, or prints why there is none.
+fn planned<R: Eprint + AllocGlobal + Files>(
+    rt: &R,
+    texts: &mut Texts,
+    matches: &ArgMatches<'_>,
+) -> anyhow::Result<Option<Plan>> {
+    let is_read = is_named(rt, "--crate", matches.get_str("crate").unwrap_or(""))?
+        && are_folders(rt, matches)?
+        && add_others(rt, texts, matches.get_strs("with").unwrap_or(&[]))?
+        && add(
+            rt,
+            texts,
+            matches.get_str("INPUT").unwrap_or(""),
+            matches.get_str("notes"),
+        )?;
+    if !is_read {
+        return Ok(None);
+    }
+    plan(rt, texts)
 }
 
 /// Returns whether a crate can have a name, or prints that it can't.

@@ -15,7 +15,7 @@ pub struct Lines {
     pub bare: Option<&'static str>,
     /// That of a case of one field, if it is another.
     pub one: Option<&'static str>,
-    pub behind: &'static str,
+    pub after: &'static str,
     /// The whole text if there is only one value or case and it has no fields: then there is
     /// nothing to distinguish.
     pub alone: Option<&'static str>,
@@ -43,7 +43,7 @@ impl Lines {
             };
             part.holes.push(alloc, &mut out, line.unwrap_or(self.each))?;
         }
-        of_message.push(alloc, &mut out, self.behind)?;
+        of_message.push(alloc, &mut out, self.after)?;
         Ok(out)
     }
 }

@@ -13,10 +13,10 @@ use crate::width::Width;
 use std::alloc::{AllocError, Global};
 
 // The most fields of a struct.
-const MOST_FIELDS: usize = 27;
+const MAX_FIELDS: usize = 27;
 
 // The most fields of a case.
-const MOST_OF_CASE: usize = 18;
+const MAX_CASE_FIELDS: usize = 18;
 
 fn may_be_length(length: Option<usize>) -> bool
     ensures { IsTrue result ↔ IsTrue (is_length length) }
@@ -94,7 +94,7 @@ impl FieldList {
         ensures none { result ≡ None → length self.members.items ≤ 27 → ⊥ }
         ensures writable { IfSome result IsWritable }
     {
-        if self.members.len() > MOST_FIELDS {
+        if self.members.len() > MAX_FIELDS {
             return None;
         }
         Some(Body::Fields(self.members))
@@ -221,7 +221,7 @@ impl CaseList {
             (TakesCase self.old.width.bytes self.old.variants.items self.new.variants.items variant) }
         ensures width { self.new.width ≡ self.old.width }
     {
-        if variant.fields.len() > MOST_OF_CASE {
+        if variant.fields.len() > MAX_CASE_FIELDS {
             return Ok(Some(Unfit::ManyFields));
         }
         if !self.width.holds(variant.tag) {

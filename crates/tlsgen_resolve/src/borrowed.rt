@@ -7,10 +7,10 @@ use tlsgen_model::plan::{Body, Element, Member};
 use tlsgen_syntax::refusal::Trouble;
 
 // The most runs of a struct.
-const MOST_RUNS: usize = 3;
+const MAX_RUNS: usize = 3;
 
 // The most runs of a case, which has its tag before them.
-const MOST_OF_CASE: usize = 2;
+const MAX_CASE_RUNS: usize = 2;
 
 /// Whether a message of a struct has references. One without fields has none.
 pub fn lends(sequence: &Sequence<'_>, body: &Body) -> bool {
@@ -29,10 +29,10 @@ impl<'a> Resolver<'a> {
     pub fn check_runs(&self, sequence: &Sequence<'_>, body: &Body) -> Result<(), Trouble> {
         match body {
             Body::Values { .. } => Ok(()),
-            Body::Fields(fields) => self.check_row(sequence, fields, MOST_RUNS),
+            Body::Fields(fields) => self.check_row(sequence, fields, MAX_RUNS),
             Body::Choice { variants, .. } | Body::Sum { variants, .. } => {
                 for variant in variants {
-                    self.check_row(sequence, &variant.fields, MOST_OF_CASE)?;
+                    self.check_row(sequence, &variant.fields, MAX_CASE_RUNS)?;
                 }
                 Ok(())
             }

@@ -15,7 +15,7 @@ use tlsgen_syntax::refusal::Trouble;
 use tlsgen_syntax::syntax::{Enum, Name, Number, Value};
 
 // The most values of an enum: names are compared each with each.
-const MOST_VALUES: usize = 1024;
+const MAX_VALUES: usize = 1024;
 
 /// What is right in place of a number that is too great for its enum or its tag.
 pub const TOO_GREAT: &str = "a number of at most the enum's bytes";
@@ -150,7 +150,7 @@ fn push_value(
 {
     let text = name.text.as_str();
     check_value_letters(alloc, name)?;
-    if values.len() >= MOST_VALUES {
+    if values.len() >= MAX_VALUES {
         return Err(refused(alloc, name.place, text, "at most 1024 values"));
     }
     let spelled = underscored(alloc, text)?;

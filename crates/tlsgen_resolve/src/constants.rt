@@ -174,7 +174,7 @@ fn constant_of_bytes(
     }
     let mut value = 0;
     for element in elements {
-        value = behind(alloc, value, *element)?;
+        value = with_byte(alloc, value, *element)?;
     }
     let place = elements
         .first()
@@ -198,7 +198,7 @@ fn array_width(field: &Field) -> Option<Width> {
 }
 
 // Appends one byte to a number.
-fn behind(alloc: Global, value: u64, element: Number) -> Result<u64, Trouble> {
+fn with_byte(alloc: Global, value: u64, element: Number) -> Result<u64, Trouble> {
     match u8::try_from(element.value) {
         Ok(byte) => Ok((value << 8) | u64::from(byte)),
         Err(_) => Err(refused_number(alloc, element, "a byte")),

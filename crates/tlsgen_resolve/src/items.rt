@@ -6,7 +6,7 @@ use crate::scope::Scope;
 use tlsgen_syntax::syntax::{Field, Item, Name, Struct, Vector};
 
 /// The most items of all files.
-pub const MOST_ITEMS: usize = 100_000;
+pub const MAX_ITEMS: usize = 100_000;
 
 /// The name of an item.
 pub fn item_name(item: &Item) -> &Name {

@@ -51,7 +51,7 @@ impl<'a> Resolver<'a> {
         }
         Err(self.refused_name(
             tag,
-            "a name for what the tag and its selects become, behind the select: `} NAME;`",
+            "a name for what the tag and its selects become, after the select: `} NAME;`",
         ))
     }
 }

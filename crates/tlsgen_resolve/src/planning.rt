@@ -33,6 +33,7 @@ pub struct PlanError {
     pub is_note: bool,
     /// The crates before it that define the rejected name, by their positions among the files.
     pub homes: Vec<usize>,
+    /// Why it is rejected. If memory was refused, no file is to blame, and the fields above say nothing.
     pub trouble: Trouble,
 }
 

@@ -7,7 +7,7 @@ use crate::checks::{check_letters, type_module};
 use crate::counted::counted_type;
 use crate::definitions::Definitions;
 use crate::held::{PlacedTag, member_name};
-use crate::items::{MOST_ITEMS, item_name};
+use crate::items::{MAX_ITEMS, item_name};
 use crate::known::{Known, needs_outer_tag, sequence_named};
 use crate::members::ResolvedMember;
 use crate::naming::{definition_doc, type_name};
@@ -75,7 +75,7 @@ impl<'a> Resolver<'a> {
     }
 
     fn add_module(&mut self, name: &Name) -> Result<(), Trouble> {
-        if self.scope.count() > MOST_ITEMS {
+        if self.scope.count() > MAX_ITEMS {
             return Err(self.refused_name(name, "at most 100000 definitions"));
         }
         let module = type_module(self.alloc, name)?;

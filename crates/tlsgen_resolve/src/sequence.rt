@@ -11,10 +11,10 @@ use tlsgen_syntax::refusal::{Place, Trouble};
 use tlsgen_syntax::syntax::{Field, Name, Remark, Select, Struct};
 
 /// The most pieces of a struct.
-pub const MOST_PIECES: usize = 256;
+pub const MAX_PIECES: usize = 256;
 
 // The most words of a select's path.
-const MOST_WORDS: usize = 16;
+const MAX_WORDS: usize = 16;
 
 /// A field or a select.
 #[derive(Clone, Copy)]
@@ -76,7 +76,7 @@ pub fn refused_size(alloc: Global, name: &Name) -> Trouble {
 fn check_paths(alloc: Global, sequence: &Sequence<'_>) -> Result<(), Trouble> {
     for piece in &sequence.pieces {
         if let Piece::Select(select) = piece {
-            if select.path.is_empty() || select.path.len() > MOST_WORDS {
+            if select.path.is_empty() || select.path.len() > MAX_WORDS {
                 return Err(refused(alloc, select.place, "select", "a path of 1 to 16 names"));
             }
         }

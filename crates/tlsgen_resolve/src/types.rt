@@ -17,7 +17,8 @@ use tlsgen_model::width::bytes_for;
 use tlsgen_syntax::refusal::Trouble;
 use tlsgen_syntax::syntax::{Constant, Field, Item, Name, Number, Vector};
 
-const MOST_OF_ARRAY: u64 = 65535;
+// The most elements of an array.
+const MAX_ARRAY_LENGTH: u64 = 65535;
 
 // What is expected of an array whose number cuts an integer.
 const CUT: &str =
@@ -127,7 +128,7 @@ fn array_type(
 ) -> Result<Type, Trouble>
     ensures { IfOk result IsType }
 {
-    if number.value == 0 || number.value > MOST_OF_ARRAY {
+    if number.value == 0 || number.value > MAX_ARRAY_LENGTH {
         return Err(refused_number(alloc, number, "an array of 1 to 65535 bytes"));
     }
     if has_bytes(field) {

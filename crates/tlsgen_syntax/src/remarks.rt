@@ -38,7 +38,7 @@ struct Remarks<'a> {
     /// The name that a comment after it is on.
     name: Option<usize>,
     /// Where a line comment after a name was.
-    behind: Option<Spot>,
+    trailing: Option<Spot>,
     /// What is above the next token, and the line on which that ends.
     above: String,
     last: usize,
@@ -63,7 +63,7 @@ impl<'a> Remarks<'a> {
             count: 0,
             depth: 0,
             name: None,
-            behind: None,
+            trailing: None,
             above: String::new(alloc),
             last: 0,
             of_definition: String::new(alloc),
@@ -160,22 +160,22 @@ impl<'a> Remarks<'a> {
             self.rfc = rfc_of(comment);
         }
         if !is_first(tokens, comment) || self.goes_on(comment) {
-            return self.read_behind(tokens, comment);
+            return self.read_trailing(tokens, comment);
         }
-        self.behind = None;
+        self.trailing = None;
         self.read_above(comment)
     }
 
     fn read_heading(&mut self, heading: Heading<'a>) {
         self.rfc = heading.rfc.or(self.rfc);
         self.section = heading.section;
-        self.behind = None;
+        self.trailing = None;
         self.above.clear();
     }
 
     // Whether a comment continues one after a name: it is directly below it.
     fn goes_on(&self, comment: &Comment<'_>) -> bool {
-        let Some(spot) = self.behind else {
+        let Some(spot) = self.trailing else {
             return false;
         };
         comment.is_line
@@ -183,7 +183,7 @@ impl<'a> Remarks<'a> {
             && comment.place.line == spot.line.saturating_add(1)
     }
 
-    fn read_behind(
+    fn read_trailing(
         &mut self,
         tokens: &mut Vec<Token>,
         comment: &Comment<'_>,
@@ -194,7 +194,7 @@ impl<'a> Remarks<'a> {
             return Ok(());
         };
         if comment.is_line {
-            self.behind = Some(Spot {
+            self.trailing = Some(Spot {
                 line: comment.place.line,
                 column: comment.place.column,
             });

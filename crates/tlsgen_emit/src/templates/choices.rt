@@ -45,7 +45,7 @@ static TEXTS: [Lines; 20] = [
         each: "const $constant$: u$bits$ = $number$;\n\n",
         bare: None,
         one: None,
-        behind: "",
+        after: "",
         alone: None,
     },
     VARIANTS,
@@ -57,7 +57,7 @@ static TEXTS: [Lines; 20] = [
         one: Some(
             "            $name$::$variant$($fields$) => ($constant$, $borrowed$).tls_serialized_len(),\n",
         ),
-        behind: "        }\n",
+        after: "        }\n",
         alone: Some("        $width$\n"),
     },
     Lines {
@@ -68,7 +68,7 @@ static TEXTS: [Lines; 20] = [
         one: Some(
             "            $name$::$variant$($fields$) => ($constant$, $borrowed$).tls_serialize(writer),\n",
         ),
-        behind: "        }\n",
+        after: "        }\n",
         alone: Some("        $constant$.tls_serialize(writer)\n"),
     },
     Lines {
@@ -79,7 +79,7 @@ static TEXTS: [Lines; 20] = [
         one: Some(
             "            $name$::$variant$($fields$) => ($constant$, $borrowed$).tls_serialize_into(out),\n",
         ),
-        behind: "        }\n",
+        after: "        }\n",
         alone: Some("        $constant$.tls_serialize_into(out)\n"),
     },
     Lines {
@@ -88,7 +88,7 @@ static TEXTS: [Lines; 20] = [
         each: "        (variant_source_names $number$ ⟦<$types$ as Deserialize>⟧.names\n",
         bare: Some("        (variant_source_names $number$ nothing_source_names\n"),
         one: None,
-        behind: "        no_variant_source_names",
+        after: "        no_variant_source_names",
         alone: None,
     },
     Lines {
@@ -97,7 +97,7 @@ static TEXTS: [Lines; 20] = [
         each: "        (variant_names $number$ ⟦<$types$ as DeserializeBytes>⟧.names\n",
         bare: Some("        (variant_names $number$ nothing_names\n"),
         one: None,
-        behind: "        no_variant_names",
+        after: "        no_variant_names",
         alone: None,
     },
     Lines {
@@ -116,7 +116,7 @@ static TEXTS: [Lines; 20] = [
             }
 ",
         ),
-        behind: "",
+        after: "",
         alone: None,
     },
     Lines {
@@ -135,7 +135,7 @@ static TEXTS: [Lines; 20] = [
             }
 ",
         ),
-        behind: "",
+        after: "",
         alone: None,
     },
     Lines {
@@ -144,7 +144,7 @@ static TEXTS: [Lines; 20] = [
         each: "        (variant_places $number$ ⟦<$types$ as Validate>⟧.places\n",
         bare: Some("        (variant_places $number$ nothing_places\n"),
         one: None,
-        behind: "        no_variant_places",
+        after: "        no_variant_places",
         alone: None,
     },
     Lines {
@@ -157,7 +157,7 @@ static TEXTS: [Lines; 20] = [
 ",
         bare: Some("            $constant$ => Ok(rest),\n"),
         one: None,
-        behind: "",
+        after: "",
         alone: None,
     },
     PLAINS,
@@ -169,7 +169,7 @@ static TEXTS: [Lines; 20] = [
         each: "    $open$variant $number$ $format$\n",
         bare: None,
         one: None,
-        behind: "    no_variant",
+        after: "    no_variant",
         alone: None,
     },
     Lines {
@@ -178,7 +178,7 @@ static TEXTS: [Lines; 20] = [
         each: "    $open$variant_meets $number$ $law$\n",
         bare: None,
         one: None,
-        behind: "    no_variant_meets",
+        after: "    no_variant_meets",
         alone: None,
     },
     VARIANTS_USE,
@@ -188,7 +188,7 @@ static TEXTS: [Lines; 20] = [
         each: "$close$",
         bare: None,
         one: None,
-        behind: "",
+        after: "",
         alone: None,
     },
     CONTENTS,
@@ -205,7 +205,7 @@ $declared$    },
 ",
     bare: Some("    /// `case $label$:`\n    $variant$,\n"),
     one: Some("    /// `case $label$: $stated$`\n$comment$    $variant$($types$),\n"),
-    behind: "",
+    after: "",
     alone: None,
 };
 
@@ -216,7 +216,7 @@ pub const PLAINS: Lines = Lines {
     each: "$module$_plain $value$ = Join (Number $number$) $plain$\n",
     bare: None,
     one: None,
-    behind: "",
+    after: "",
     alone: Some("$module$_plain v = Join (Number $number$) Empty\n"),
 };
 
@@ -227,7 +227,7 @@ pub const TAGS: Lines = Lines {
     each: "$module$_tag $value$ = $number$\n",
     bare: None,
     one: None,
-    behind: "",
+    after: "",
     alone: Some("$module$_tag v = $number$\n"),
 };
 
@@ -243,7 +243,7 @@ pub const CASES: Lines = Lines {
         "    ensures case_$number$ { ⟦<$name$$static$ as PartialEq>⟧.eq $name$.$variant$ $name$.$variant$ ≡ true }\n",
     ),
     one: None,
-    behind: "",
+    after: "",
     alone: None,
 };
 
@@ -254,7 +254,7 @@ pub const VARIANTS_USE: Lines = Lines {
     each: "$comma$$variant$",
     bare: None,
     one: None,
-    behind: "}\n",
+    after: "}\n",
     alone: Some(""),
 };
 
@@ -265,7 +265,7 @@ pub const DEFINED: Lines = Lines {
     each: "",
     bare: None,
     one: None,
-    behind: "",
+    after: "",
     alone: None,
 };
 

@@ -22,7 +22,7 @@ returns-in-$variant$-clause-writes g c = let is = c.in-$variant$.is in rw is (ta
 ",
     ),
     one: None,
-    behind: "",
+    after: "",
     alone: Some(
         "
 pub returns-clause-writes : goal.returns-clause-writes
@@ -46,7 +46,7 @@ returns-in-$variant$-clause-appends c = let is = c.in-$variant$.is in rw is (tag
 ",
     ),
     one: None,
-    behind: "",
+    after: "",
     alone: Some(
         "
 pub returns-clause-appends : goal.returns-clause-appends
@@ -83,7 +83,7 @@ returns-in_ok-$first$-in-$number$-clause-reads g c =
 ",
     bare: Some(""),
     one: None,
-    behind: "
+    after: "
 pub returns-in_default-clause-reads : goal.returns-in_default-clause-reads
 returns-in_default-clause-reads g c = let is = c.unknown_value.ensures in rw is (tagged_leaves_unknown u$bits$_meets $module$_variants_meet g.met.R.Source.gives_nothing c.in_ok-tag.ensures.reads (search rules))
 
@@ -111,7 +111,7 @@ returns-in_ok-$first$-in-$number$-clause-splits c = tagged_begins u$bits$_meets 
 ",
     bare: Some(""),
     one: None,
-    behind: "
+    after: "
 pub returns-in_default-clause-splits : goal.returns-in_default-clause-splits
 returns-in_default-clause-splits c = let is = c.unknown_value.ensures in rw is (tagged_refuses_unknown u$bits$_meets $module$_variants_meet c.in_ok-tag.ensures.splits (search rules))
 ",
@@ -145,7 +145,7 @@ returns-in-$number$-clause-validates c = parts_leave u$bits$_meets $module$_vari
 ",
     ),
     one: None,
-    behind: "
+    after: "
 pub returns-in_default-clause-validates : goal.returns-in_default-clause-validates
 returns-in_default-clause-validates c = let is = c.unknown_value.ensures in rw is (unknown_rejected u$bits$_meets $module$_variants_meet c.in_ok-tag.ensures.finds (search rules))
 

@@ -24,6 +24,6 @@ pub const CONTENTS: Lines = Lines {
     each: "$from_content$",
     bare: None,
     one: None,
-    behind: "",
+    after: "",
     alone: None,
 };

@@ -29,7 +29,7 @@ static TEXTS: [Lines; 4] = [
         each: "$line$    /// `$label$`\n$comment$    pub const $constant$: $name$ = $name$($number$);\n",
         bare: None,
         one: None,
-        behind: "",
+        after: "",
         alone: None,
     },
     Lines {
@@ -38,7 +38,7 @@ static TEXTS: [Lines; 4] = [
         each: "            $number$ => Some(\"$label$\"),\n",
         bare: None,
         one: None,
-        behind: "",
+        after: "",
         alone: None,
     },
     Lines {
@@ -47,7 +47,7 @@ static TEXTS: [Lines; 4] = [
         each: "    ($number$, codes \"$label$\") ∷\n",
         bare: None,
         one: None,
-        behind: "    []\n",
+        after: "    []\n",
         alone: None,
     },
     Lines {
@@ -56,7 +56,7 @@ static TEXTS: [Lines; 4] = [
         each: "",
         bare: None,
         one: None,
-        behind: "",
+        after: "",
         alone: None,
     },
 ];

@@ -24,7 +24,7 @@ pub static TEXTS: [Lines; 1] = [Lines {
     each: "",
     bare: None,
     one: None,
-    behind: "",
+    after: "",
     alone: None,
 }];
 

@@ -113,7 +113,7 @@ static TEXTS: [Lines; 10] = [
         each: "            $name$::$variant$ { $fields$ } => $side$$made$$ends$,\n",
         bare: Some("            $name$::$variant$ => $side$$made$$ends$,\n"),
         one: Some("            $name$::$variant$($fields$) => $side$$made$$ends$,\n"),
-        behind: "        };\n",
+        after: "        };\n",
         alone: Some("        let cases = $made$;\n"),
     },
     Lines {
@@ -126,7 +126,7 @@ $lets$                $name$::$variant$ { $fields$ }
 ",
         bare: Some("            $side$_$ends$ => $name$::$variant$,\n"),
         one: Some("            $side$case$ends$ => $name$::$variant$($taken$),\n"),
-        behind: "        }\n",
+        after: "        }\n",
         alone: None,
     },
     Lines {
@@ -135,7 +135,7 @@ $lets$                $name$::$variant$ { $fields$ }
         each: "",
         bare: None,
         one: None,
-        behind: "",
+        after: "",
         alone: None,
     },
 ];

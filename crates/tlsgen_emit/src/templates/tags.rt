@@ -46,6 +46,6 @@ pub static VALUES: Lines = Lines {
     each: "            $name$::$variant$ { .. } => $tag_value$,\n",
     bare: Some("            $name$::$variant$ => $tag_value$,\n"),
     one: Some("            $name$::$variant$(_) => $tag_value$,\n"),
-    behind: "        }\n",
+    after: "        }\n",
     alone: Some("        $tag_value$\n"),
 };

@@ -33,7 +33,7 @@ static TEXTS: [Lines; 9] = [
         each: "    /// `$label$($number$)`\n$comment$    $variant$,\n",
         bare: None,
         one: None,
-        behind: "",
+        after: "",
         alone: None,
     },
     Lines {
@@ -42,7 +42,7 @@ static TEXTS: [Lines; 9] = [
         each: "            $name$::$variant$ => $number$,\n",
         bare: None,
         one: None,
-        behind: "        }\n",
+        after: "        }\n",
         alone: Some("        $number$\n"),
     },
     Lines {
@@ -51,7 +51,7 @@ static TEXTS: [Lines; 9] = [
         each: "            $name$::$variant$ => \"$label$\",\n",
         bare: None,
         one: None,
-        behind: "        }\n",
+        after: "        }\n",
         alone: Some("        \"$label$\"\n"),
     },
     Lines {
@@ -60,7 +60,7 @@ static TEXTS: [Lines; 9] = [
         each: "            $number$ => Some($name$::$variant$),\n",
         bare: None,
         one: None,
-        behind: "",
+        after: "",
         alone: None,
     },
     Lines {
@@ -69,7 +69,7 @@ static TEXTS: [Lines; 9] = [
         each: "$module$_code $variant$ = $number$\n",
         bare: None,
         one: None,
-        behind: "",
+        after: "",
         alone: Some("$module$_code v = $number$\n"),
     },
     Lines {
@@ -78,7 +78,7 @@ static TEXTS: [Lines; 9] = [
         each: "$module$_name $variant$ = codes \"$label$\"\n",
         bare: None,
         one: None,
-        behind: "",
+        after: "",
         alone: Some("$module$_name v = codes \"$label$\"\n"),
     },
     Lines {
@@ -87,7 +87,7 @@ static TEXTS: [Lines; 9] = [
         each: "$module$_known $variant$ = refl\n",
         bare: None,
         one: None,
-        behind: "",
+        after: "",
         alone: Some("$module$_known v = refl\n"),
     },
     Lines {
@@ -96,7 +96,7 @@ static TEXTS: [Lines; 9] = [
         each: "$comma$$variant$",
         bare: None,
         one: None,
-        behind: "}\n",
+        after: "}\n",
         alone: Some(""),
     },
 ];
@@ -282,7 +282,7 @@ returns-clause-writes g c =
     each: "",
     bare: None,
     one: None,
-    behind: "",
+    after: "",
     alone: None,
 };
 
@@ -297,7 +297,7 @@ returns-clause-appends c =
     each: "",
     bare: None,
     one: None,
-    behind: "",
+    after: "",
     alone: None,
 };
 
@@ -337,7 +337,7 @@ returns-in-None-clause-named g c =
     each: "",
     bare: None,
     one: None,
-    behind: "",
+    after: "",
     alone: None,
 };
 
@@ -358,7 +358,7 @@ returns-in-None-clause-splits c =
     each: "",
     bare: None,
     one: None,
-    behind: "",
+    after: "",
     alone: None,
 };
 
@@ -394,6 +394,6 @@ returns-in-None-clause-rejected c =
     each: "",
     bare: None,
     one: None,
-    behind: "",
+    after: "",
     alone: None,
 };

@@ -93,7 +93,7 @@ $viewed$    },
         one: Some(
             "    /// `case $label$: $stated$`\n$comment$    $variant$(Encoded<'a, $types$>),\n",
         ),
-        behind: "",
+        after: "",
         alone: None,
     },
     Lines {
@@ -102,7 +102,7 @@ $viewed$    },
         each: "      | $view_name$.$variant$ $lefts$ ↦ IsCase $width$ $number$ whole $view_bytes$\n",
         bare: Some("      | $view_name$.$variant$ ↦ IsCase $width$ $number$ whole []\n"),
         one: None,
-        behind: "",
+        after: "",
         alone: None,
     },
     Lines {
@@ -116,7 +116,7 @@ $view_splits$                $view_name$::$variant$ { $fields$ }
         one: Some(
             "            $number$ => $view_name$::$variant$(Encoded::from_only_part(parts)),\n",
         ),
-        behind: "",
+        after: "",
         alone: None,
     },
 ];
@@ -131,7 +131,7 @@ pub static AFTER_TAG: [Lines; 3] = [
         one: Some(
             "    /// `case $label$: $stated$`\n$comment$    $variant$(Encoded<'a, $after_tag$>),\n",
         ),
-        behind: "",
+        after: "",
         alone: None,
     },
     Lines {
@@ -140,7 +140,7 @@ pub static AFTER_TAG: [Lines; 3] = [
         each: "      | $view_name$.$variant$ a0 ↦ IsCase $width$ $number$ whole a0\n",
         bare: None,
         one: None,
-        behind: "",
+        after: "",
         alone: None,
     },
     Lines {
@@ -149,7 +149,7 @@ pub static AFTER_TAG: [Lines; 3] = [
         each: "            $number$ => $view_name$::$variant$(Encoded::from_proved(parts)),\n",
         bare: None,
         one: None,
-        behind: "",
+        after: "",
         alone: None,
     },
 ];
@@ -173,7 +173,7 @@ impl ReadInPlace for $name$ {
     each: "            $number$ => $name$::$variant$,\n",
     bare: None,
     one: None,
-    behind: "            _ => unreachable!(),
+    after: "            _ => unreachable!(),
         }
     }
 }
