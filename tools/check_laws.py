@@ -14,7 +14,7 @@ import sys
 from collections.abc import Iterator
 
 from lib.failed import Failed, ended
-from lib.libraries import CRATES, DATA, TEXTS, Libraries
+from lib.libraries import CRATES, DATA, TEXT_OF_CRATE
 from write_laws import differences
 
 
@@ -168,10 +168,9 @@ def faults_of(crate: str, text: str) -> Iterator[str]:
                 yield f"{page.stem}: {fault}"
 
 
-def unlike(crate: str, text: str) -> list[str]:
-    """What isn't as write_laws.py writes it, of a crate whose text is over those of the crates that it uses."""
-    over = [it for it in Libraries().uses[crate] if it in TEXTS]
-    return [f"{it} isn't as tools/write_laws.py writes it" for it in differences(crate, text, over)]
+def unlike(crate: str) -> list[str]:
+    """What isn't as write_laws.py writes it."""
+    return [f"{it} isn't as tools/write_laws.py writes it" for it in differences(crate)]
 
 
 def reported(crate: str, faults: list[str], otherwise: str) -> bool:
@@ -205,13 +204,13 @@ def selftest() -> Iterator[str]:
 
 
 def main() -> int:
-    passed, wanted = 0, 2 * len(TEXTS) + 1
+    passed, wanted = 0, 2 * len(TEXT_OF_CRATE) + 1
     missed = list(selftest())
     print("selftest: " + ("; ".join(missed) or "each planted fault is found"))
     passed += not missed
-    for crate, text in TEXTS.items():
+    for crate, text in TEXT_OF_CRATE.items():
         passed += reported(crate, list(faults_of(crate, text)), f"the lines of {text}.tls, and each type under its names")
-        passed += reported(crate, unlike(crate, text), "what tools/write_laws.py writes")
+        passed += reported(crate, unlike(crate), "what tools/write_laws.py writes")
     print(f"{passed} passed, {wanted - passed} failed")
     return int(passed < wanted)
 

@@ -41,20 +41,17 @@ def link_or_copy(one: str, other: str) -> None:
 
 def check(libraries: Libraries, given: argparse.Namespace, crate: str, together: list[Edit]) -> tuple[int, str]:
     """Checks the edited functions of a copy of the crate, and what they call: the status, and what rattle says."""
-    only = [word for it in together for word in ("--only", it.function)]
+    words = [word for it in together for word in ("--only", it.function)]
     with tempfile.TemporaryDirectory(prefix="wrong-bodies-") as room:
         for part in ("src", "specs", "proofs"):
             if (CRATES / crate / part).is_dir():
                 shutil.copytree(CRATES / crate / part, f"{room}/{part}")
         edits.apply(together, pathlib.Path(room))
-        words = [f"{libraries.kit}/bin/rattle", "check", *libraries.words(crate), *only]
         work = CRATES / crate / "out" / "incremental"
         if given.incremental and work.is_dir():
             shutil.copytree(work, f"{room}/kept", copy_function=link_or_copy)
             words += ["--incremental", "kept"]
-        how = {"stdin": subprocess.DEVNULL, "stdout": subprocess.PIPE, "stderr": subprocess.STDOUT}
-        ran = subprocess.run(words, cwd=room, text=True, errors="replace", **how)
-    return ran.returncode, ran.stdout
+        return libraries.rattle("check", crate, words, pathlib.Path(room))
 
 
 def tried(libraries: Libraries, given: argparse.Namespace, crate: str, together: list[Edit]) -> list[tuple[Edit, Verdict]]:
@@ -89,10 +86,9 @@ def planned(libraries: Libraries, crate: str, names: list[str]) -> tuple[list[li
 
 
 def refresh(libraries: Libraries, crates: list[str]) -> None:
-    """Where a session's own commands built a library, which has a stamp then, all are built by `rt lib`: those that rt ci built
-    have none, and fit no others."""
+    """Where a session's own commands built a library, all are built by `rt lib`."""
     below = list(dict.fromkeys(it for crate in crates for it in libraries.below(crate)))
-    if not any((libraries.rlib(it).parent / "stamp").is_file() for it in below):
+    if not any(map(libraries.is_stamped, below)):
         return
     for it in below:
         ran = subprocess.run(["rt", "lib", "--jobs", "1"], cwd=CRATES / it, stdout=subprocess.DEVNULL)
@@ -118,8 +114,9 @@ def main() -> int:
     given = parser.parse_args()
     misread = verdicts.selftest(OUTPUTS)
     if misread or given.selftest:
-        print(f"{1 - misread} passed, {misread} failed")
-        return misread
+        failed = int(bool(misread))
+        print(f"{1 - failed} passed, {failed} failed")
+        return failed
     # (programs that run beside it have a limit of time: they go first)
     os.nice(10)
     libraries = Libraries()

@@ -10,6 +10,9 @@ An edit has the lines of an edit of must-fail/, which `rt --help` describes, and
 
 Lines `after: TEXT` before an `old:` text say which one is meant, if its file has it more than once: the first that comes after these
 texts, in their order.
+
+A crate of laws has no code. There an edit turns what a law in `src/` is about, in files below `specs/`: a text, what it defines, or what it
+says. It is tried alone.
 """
 from __future__ import annotations
 
@@ -21,6 +24,8 @@ import re
 CLAUSES = ("requires", "ensures")
 # The word with which an impl says what a member of its trait means, which a law may hold it to.
 MEANING = ("ghost ",)
+# How the names of crates end that have laws alone.
+LAWS = "_laws"
 FUNCTION = re.compile(r"\bfn\s+(?:r#)?(\w+)")
 
 
@@ -79,6 +84,8 @@ def read(path: pathlib.Path, crate: pathlib.Path) -> Edit:
         raise BadEdit("it has no lines 'old:' and 'new:'")
     if any(one.meets(other) for at, one in enumerate(changes) for other in changes[:at]):
         raise BadEdit("two of its 'old:' texts overlap")
+    if crate.name.endswith(LAWS):
+        return Edit(path.stem, function, True, tuple(changes))
     for it in changes:
         hold_to_code(crate, it, CLAUSES if is_alone else CLAUSES + MEANING)
         if not is_alone:
@@ -87,8 +94,9 @@ def read(path: pathlib.Path, crate: pathlib.Path) -> Edit:
 
 
 def change(crate: pathlib.Path, file: str, after: list[str], old: str, new: str) -> Change:
-    if not file.startswith("src/") or ".." in file or not (crate / file).is_file():
-        raise BadEdit(f"its line 'file:' names no file below src/: {file}")
+    top = "specs/" if crate.name.endswith(LAWS) else "src/"
+    if not file.startswith(top) or ".." in file or not (crate / file).is_file():
+        raise BadEdit(f"its line 'file:' names no file below {top}: {file}")
     if not old or old == new:
         raise BadEdit("a line 'new:' changes nothing")
     text = (crate / file).read_text(encoding="utf-8")
@@ -115,7 +123,7 @@ def hold_to_function(function: str, crate: pathlib.Path, it: Change) -> None:
     before = (crate / it.file).read_text(encoding="utf-8")[: it.end]
     code = "\n".join(line for line in before.split("\n") if not line.lstrip().startswith("//"))
     found = FUNCTION.findall(code)
-    module = it.file.removeprefix("src/").removesuffix(".rt").removesuffix("/mod").replace("/", "::")
+    module = it.file.removeprefix("src/").removesuffix(".rt").replace("/", "::")
     prefix = "" if module in ("lib", "main") else f"{module}::"
     if not found or found[-1] != function.split("::")[-1] or not function.startswith(prefix):
         changed = f"{prefix}{found[-1]}" if found else it.file

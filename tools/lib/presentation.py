@@ -247,6 +247,11 @@ def name_of(one: Definition) -> str:
     return field_name(one[1]) if one[0] == "alias" else one[-1]
 
 
+def snake(name: str) -> str:
+    """`TLSPlaintext` as `tls_plaintext`, and `MLSMessage` as `mls_message`."""
+    return re.sub(r"(?<=[a-z])(?=[A-Z])|(?<=[A-Z])(?=[A-Z][a-z])", "_", name).lower()
+
+
 def field_name(field: Field) -> str:
     """What a field is called: the name of its type, if it has none."""
     return field["name"] or field["of"]

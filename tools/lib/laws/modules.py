@@ -7,7 +7,7 @@ from lib.laws.says import Reading
 from lib.laws.written import Written
 
 # How many types one module has.
-MOST_TYPES = 32
+MAX_TYPES = 32
 
 
 def clause(name: str, *words: str) -> str:
@@ -26,7 +26,7 @@ def split(types: list[Written]) -> dict[str, list[Written]]:
     half = len(types) // 2
     while 0 < half < len(types) and types[half].name[0] == types[half - 1].name[0]:
         half += 1
-    parts = [types[:half], types[half:]] if len(types) > MOST_TYPES else [types]
+    parts = [types[:half], types[half:]] if len(types) > MAX_TYPES else [types]
     if len(parts) == 1:
         return {"laws": types}
     return {f"laws_{part[0].name[0]}_to_{part[-1].name[0]}".lower(): part for part in parts}

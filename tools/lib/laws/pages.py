@@ -44,11 +44,11 @@ def pruned(text: str) -> str:
     return "\n".join(out)
 
 
-def lines_page(reading: Reading, page: str, word: str, lines: list[str], says: str, behind: str = "") -> Files:
+def lines_page(reading: Reading, page: str, word: str, lines: list[str], says: str, after: str = "") -> Files:
     """A page with lines of a text, before those of another page, if one is named."""
     body = "".join(f"    {quoted(line)} ∷\n" for line in lines)
-    uses = f"use Rattle.{reading.laws}.specs.{page}Behind.{{{behind}}}\n" if behind else ""
-    append, end = (", ◌++◌", f" ++ {behind}") if behind else ("", "")
+    uses = f"use Rattle.{reading.laws}.specs.{page}Behind.{{{after}}}\n" if after else ""
+    append, end = (", ◌++◌", f" ++ {after}") if after else ("", "")
     text = f"""-- {says}
 use Rattle.std.specs.Prelude.{{ℕ, List, [], ◌∷◌{append}}}
 use Rattle.tls_presentation.specs.Cut.{{lines}}

@@ -36,11 +36,11 @@ def is_on(tag: Field, select: Field) -> bool:
     return select["path"].split(".")[-1] in (field_name(tag), tag["of"])
 
 
-def is_count(field: Field, behind: list[Part]) -> bool:
+def is_count(field: Field, after: list[Part]) -> bool:
     """Whether a field counts the elements of the next one."""
-    if not behind or behind[0][0] != "field":
+    if not after or after[0][0] != "field":
         return False
-    vector = behind[0][1]["vector"]
+    vector = after[0][1]["vector"]
     return vector[0] == "counted" and vector[1].split(".")[-1] == field_name(field)
 
 
@@ -59,13 +59,13 @@ class Shape:
             else:
                 at += self.field(one, items[at:])
 
-    def field(self, one: Field, behind: list[Part]) -> int:
+    def field(self, one: Field, after: list[Part]) -> int:
         """Adds a field and what depends on it; how many of the items after it are those."""
-        count = max([i + 1 for i, (kind, it) in enumerate(behind) if kind == "select" and is_on(one, it)], default=0)
+        count = max([i + 1 for i, (kind, it) in enumerate(after) if kind == "select" and is_on(one, it)], default=0)
         if count:
-            self.tag(one, behind[:count])
-        elif is_count(one, behind):
-            self.parts.append((field_name(behind[0][1]), "field", behind[0][1]))
+            self.tag(one, after[:count])
+        elif is_count(one, after):
+            self.parts.append((field_name(after[0][1]), "field", after[0][1]))
             return 1
         elif not self.noted("FillsRest", one) and not self.noted("FillsZeros", one):
             self.parts.append((field_name(one), "constant" if one["constant"] else "field", one))
