@@ -1,9 +1,7 @@
 //! Worked values and rejected bytes.
 mod arrays;
-mod each_call;
 mod elsewhere;
 mod held;
-mod in_context;
 mod key_packages;
 mod mls_messages;
 mod of_cases;
@@ -11,6 +9,7 @@ mod parts;
 mod private;
 mod selected;
 mod senders;
+mod sending;
 mod shapes;
 mod signed;
 mod signed_parts;
@@ -23,6 +22,16 @@ use std::process::Abort;
 use tls_codec::{Error, Serialize, VLBytes};
 
 const DOES_NOT_FIT: Error = Error::EncodingError("value does not fit its context");
+
+const NOT_FILLED: Error = Error::DecodingError("elements do not fill the declared length");
+
+const NOT_THERE: Error = Error::DecodingError("declared content is not there");
+
+const LENGTH: Error = Error::InvalidVectorLength;
+
+const TRAILING: Error = Error::TrailingData;
+
+const END: Error = Error::EndOfStream;
 
 // An assertion that is written out is proved at each place: this one is proved once.
 fn same<T: PartialEq + Debug + Drop>(rt: &impl Abort, found: T, expected: T) {

@@ -1,4 +1,5 @@
 //! What each call makes of a value or of bytes in a context.
+use crate::each_call::is_cut_off;
 use crate::rows::{done_at, same_at};
 use std::alloc::Global;
 use std::fmt::Debug;
@@ -29,7 +30,8 @@ where
     expect_written_in(alloc, row, context, &value, bytes)
 }
 
-fn expect_written_in<C: Size, T: SerializeFor<C>>(
+/// Each encoder writes the value in a context as these bytes.
+pub fn expect_written_in<C: Size, T: SerializeFor<C>>(
     alloc: Global,
     row: &str,
     context: &C,
@@ -49,7 +51,47 @@ fn expect_written_in<C: Size, T: SerializeFor<C>>(
     Ok(())
 }
 
-/// No encoder writes the value in a context that asks for another one.
+/// The round trip: the bytes are this value's, and no prefix is.
+pub fn expect_encoded_as_in<C: Keyed, T>(
+    alloc: Global,
+    row: &str,
+    context: &C,
+    value: &T,
+    bytes: &[u8],
+) -> Result<(), Fail>
+where
+    T: SerializeFor<C> + DeserializeFor<C> + ValidateFor<C> + Eq + Debug + Clone,
+{
+    expect_round_trip_in::<C, T>(alloc, row, context, bytes)?;
+    let split = T::tls_deserialize_exact_bytes_for(context, alloc, bytes);
+    same_at(row, &done_at(row, split)?, value)?;
+    expect_written_in(alloc, row, context, value, bytes)?;
+    same_at(row, &value.clone()?, value)?;
+    for length in 0..bytes.len() {
+        expect_cut_off_in::<C, T>(alloc, row, context, &bytes[..length])?;
+    }
+    Ok(())
+}
+
+// A slice's decoder rejects the bytes, as does validation with its error, and a source has ended.
+fn expect_cut_off_in<C: Keyed, T: DeserializeFor<C> + ValidateFor<C>>(
+    alloc: Global,
+    row: &str,
+    context: &C,
+    bytes: &[u8],
+) -> Result<(), Fail> {
+    let split = T::tls_deserialize_bytes_for(context, alloc, bytes).err();
+    let of_slice = split.unwrap_or(Error::TrailingData);
+    same_at(row, is_cut_off(of_slice), true)?;
+    let rejected = T::tls_validate_prefix_for(&context.key(), bytes).err();
+    same_at(row, rejected.map(|one| one.error), Some(of_slice))?;
+    let mut source = bytes;
+    let read = T::tls_deserialize_for(context, alloc, &mut source).err();
+    same_at(row, read, Some(Error::EndOfStream))
+}
+
+/// No encoder writes the value in a context that asks for another one, and a vector has the bytes from
+/// before.
 pub fn expect_does_not_fit_in<C: Size, T: SerializeFor<C>>(
     alloc: Global,
     row: &str,
@@ -57,17 +99,17 @@ pub fn expect_does_not_fit_in<C: Size, T: SerializeFor<C>>(
     value: &T,
 ) -> Result<(), Fail> {
     let does_not_fit = Some(Error::EncodingError("value does not fit its context"));
-    let mut out = Vec::new(alloc);
+    let mut out = [0xee].to_vec(alloc)?;
     let appended = value.tls_serialize_into_for(context, &mut out).err();
     same_at(row, appended, does_not_fit)?;
-    same_at(row, out.len(), 0)?;
+    same_at(row, out.as_slice(), [0xee].as_slice())?;
     let detached = value.tls_serialize_detached_for(context, alloc).err();
     same_at(row, detached, does_not_fit)?;
     let sent = value.tls_serialize_for(context, &mut out).err();
     same_at(row, sent, does_not_fit)
 }
 
-/// Each decoder rejects the bytes in a context with this error.
+/// To the end of the bytes, each decoder rejects them in a context with this error.
 pub fn expect_rejected_in<C: Keyed, T: DeserializeFor<C> + ValidateFor<C>>(
     alloc: Global,
     row: &str,
@@ -75,10 +117,35 @@ pub fn expect_rejected_in<C: Keyed, T: DeserializeFor<C> + ValidateFor<C>>(
     bytes: &[u8],
     error: Error,
 ) -> Result<(), Fail> {
-    let split = T::tls_deserialize_exact_bytes_for(context, alloc, bytes).err();
-    same_at(row, split, Some(error))?;
+    expect_rejected_in_by::<C, T>(alloc, row, context, bytes, error, error)
+}
+
+/// To the end of the bytes, a slice's decoder rejects them in a context with one error, as does
+/// validation, and a source's with another.
+pub fn expect_rejected_in_by<C: Keyed, T: DeserializeFor<C> + ValidateFor<C>>(
+    alloc: Global,
+    row: &str,
+    context: &C,
+    bytes: &[u8],
+    of_slice: Error,
+    of_source: Error,
+) -> Result<(), Fail> {
     let rejected = T::tls_validate_for(&context.key(), bytes).err();
-    same_at(row, rejected.map(|one| one.error), Some(error))?;
+    same_at(row, rejected.map(|one| one.error), Some(of_slice))?;
+    expect_not_decoded_in::<C, T>(alloc, row, context, bytes, of_slice, of_source)
+}
+
+/// The same of the decoders alone, for a type that isn't validated.
+pub fn expect_not_decoded_in<C: Size, T: DeserializeFor<C> + DeserializeBytesFor<C>>(
+    alloc: Global,
+    row: &str,
+    context: &C,
+    bytes: &[u8],
+    of_slice: Error,
+    of_source: Error,
+) -> Result<(), Fail> {
+    let split = T::tls_deserialize_exact_bytes_for(context, alloc, bytes).err();
+    same_at(row, split, Some(of_slice))?;
     let read = T::tls_deserialize_exact_for(context, alloc, bytes).err();
-    same_at(row, read, Some(error))
+    same_at(row, read, Some(of_source))
 }

@@ -1,4 +1,4 @@
-//! What the tests of written messages share: what each call makes of a value or of bytes.
+//! What the tests of messages share: what each call makes of a value or of bytes.
 //!
 //! A function here fails unless all is as it should be.
 #![tactic(auto)]

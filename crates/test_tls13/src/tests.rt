@@ -7,4 +7,5 @@ mod hellos;
 mod inner;
 mod names;
 mod records;
+mod sending;
 mod views;

@@ -64,13 +64,13 @@ fn types_are_as_the_table_has_them(rt: HostRuntime) -> Result<(), Fail> {
     types::byte_vectors_of_any_name::<u16>();
     tls_codec_vl::laws::conversions_and_copies_keep_the_bytes::<u16>();
     tls_codec_vl::laws::cleared_byte_vectors_are_empty::<u16>();
-    tls_codec_vec::laws::vectors_are_lists_behind_one_to_four_bytes::<u16>();
+    tls_codec_vec::laws::vectors_are_lists_after_lengths_of_one_to_four_bytes::<u16>();
     tls_codec_vec::laws::conversions_keep_the_elements::<u8, u16>();
     tls_codec_vec::laws::places_give_their_elements::<u8, u16>();
     tls_codec_bytes::laws::conversions_keep_the_bytes::<u16>();
     tls_codec_bytes::laws::places_give_their_bytes::<u16>();
     tls_codec_slice::laws::copies_are_equal::<u16>();
-    tls_codec_secret::laws::secret_vectors_are_lists_behind_one_to_four_bytes::<u16>();
+    tls_codec_secret::laws::secret_vectors_are_lists_after_lengths_of_one_to_four_bytes::<u16>();
     tls_codec_secret::laws::conversions_keep_the_elements::<u8, u16>();
     tls_codec_secret::laws::places_give_their_elements::<u8, u16>();
     tls_codec_secret::laws::cleared_secret_vectors_are_empty::<u8, u16>();

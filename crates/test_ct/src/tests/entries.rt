@@ -2,7 +2,9 @@
 use crate::tests::certificate;
 use ct::{LogEntry, PrecertChainEntry, X509ChainEntry};
 use std::test::Fail;
-use test_support::each_call::{expect_encoded_as, expect_rejected, expect_rejected_by};
+use test_support::each_call::{
+    expect_encoded_as, expect_rejected_prefix, expect_rejected_prefix_by,
+};
 use tls_codec::{Error, TlsVec};
 
 const NOT_FILLED: Error = Error::DecodingError("elements do not fill the declared length");
@@ -58,7 +60,7 @@ fn rejected_entries(rt: HostRuntime) -> Result<(), Fail> {
     ] {
         let mut bytes = X509.to_vec(alloc)?;
         bytes[at] = byte;
-        expect_rejected::<LogEntry>(alloc, row, &bytes, error)?;
+        expect_rejected_prefix::<LogEntry>(alloc, row, &bytes, error)?;
     }
     Ok(())
 }
@@ -71,6 +73,6 @@ fn an_end_within_a_certificate(rt: HostRuntime) -> Result<(), Fail> {
     let mut bytes = X509.to_vec(alloc)?;
     bytes[8] = 8;
     let row = "a chain of 8 bytes";
-    expect_rejected_by::<LogEntry>(alloc, row, &bytes, NOT_FILLED, Error::EndOfStream)?;
+    expect_rejected_prefix_by::<LogEntry>(alloc, row, &bytes, NOT_FILLED, Error::EndOfStream)?;
     Ok(())
 }

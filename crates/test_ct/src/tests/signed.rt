@@ -6,7 +6,7 @@ use ct::{
 };
 use std::alloc::Global;
 use std::test::Fail;
-use test_support::each_call::{expect_encoded_as, expect_rejected};
+use test_support::each_call::{expect_encoded_as, expect_rejected_prefix};
 use tls_codec::Error;
 
 fn to_be_signed(
@@ -75,7 +75,7 @@ fn rejected_timestamps(rt: HostRuntime) -> Result<(), Fail> {
     ] {
         let mut bytes = OF_CERTIFICATE.to_vec(alloc)?;
         bytes[at] = byte;
-        expect_rejected::<SignedCertificateTimestampTBS>(alloc, row, &bytes, error)?;
+        expect_rejected_prefix::<SignedCertificateTimestampTBS>(alloc, row, &bytes, error)?;
     }
     Ok(())
 }
@@ -105,7 +105,7 @@ fn trees(rt: HostRuntime) -> Result<(), Fail> {
         ("version 1", [1, 1], Error::UnknownValue(1)),
         ("certificate_timestamp", [0, 0], Error::UnknownValue(0)),
     ] {
-        expect_rejected::<TreeHeadSignature>(alloc, row, &bytes, error)?;
+        expect_rejected_prefix::<TreeHeadSignature>(alloc, row, &bytes, error)?;
     }
     Ok(())
 }

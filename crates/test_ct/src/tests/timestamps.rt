@@ -6,7 +6,7 @@ use ct::{
 };
 use std::alloc::Global;
 use std::test::Fail;
-use test_support::each_call::{expect_encoded_as, expect_rejected};
+use test_support::each_call::{expect_encoded_as, expect_rejected_prefix};
 use test_support::rows::same_at;
 use tls_codec::{DeserializeBytes, Error, TlsByteVec, TlsByteVecU16, TlsVec};
 
@@ -94,7 +94,7 @@ fn rejected_lists(rt: HostRuntime) -> Result<(), Fail> {
             Error::EndOfStream,
         ),
     ] {
-        expect_rejected::<SignedCertificateTimestampList>(alloc, row, bytes, error)?;
+        expect_rejected_prefix::<SignedCertificateTimestampList>(alloc, row, bytes, error)?;
     }
     Ok(())
 }
@@ -104,7 +104,7 @@ fn rejected_timestamps(rt: HostRuntime) -> Result<(), Fail> {
     let alloc = rt.alloc();
     let row = "version 1";
     let error = Error::UnknownValue(1);
-    expect_rejected::<SignedCertificateTimestamp>(alloc, row, &[1], error)?;
+    expect_rejected_prefix::<SignedCertificateTimestamp>(alloc, row, &[1], error)?;
     // one byte more of extensions, of the signature, and one less of the signature's length
     for (row, at, byte) in [
         ("extensions", 46, 13),
@@ -113,7 +113,12 @@ fn rejected_timestamps(rt: HostRuntime) -> Result<(), Fail> {
     ] {
         let mut bytes = LIST[TIMESTAMP..].to_vec(alloc)?;
         bytes[at - TIMESTAMP] = byte;
-        expect_rejected::<SignedCertificateTimestamp>(alloc, row, &bytes, Error::EndOfStream)?;
+        expect_rejected_prefix::<SignedCertificateTimestamp>(
+            alloc,
+            row,
+            &bytes,
+            Error::EndOfStream,
+        )?;
     }
     Ok(())
 }

@@ -5,7 +5,7 @@ use ct::{
 };
 use std::alloc::Global;
 use std::test::Fail;
-use test_support::each_call::{expect_encoded_as, expect_rejected};
+use test_support::each_call::{expect_encoded_as, expect_rejected_prefix};
 use tls_codec::Error;
 
 fn leaf(
@@ -77,7 +77,7 @@ fn rejected_leaves(rt: HostRuntime) -> Result<(), Fail> {
     ] {
         let mut bytes = OF_CERTIFICATE.to_vec(alloc)?;
         bytes[at] = byte;
-        expect_rejected::<MerkleTreeLeaf>(alloc, row, &bytes, error)?;
+        expect_rejected_prefix::<MerkleTreeLeaf>(alloc, row, &bytes, error)?;
     }
     Ok(())
 }

@@ -1,8 +1,9 @@
 //! Key shares by their message (section 4.2.8).
-use crate::tests::each_call::{expect_does_not_fit_in, expect_rejected_in, expect_spelled_in};
+use crate::tests::each_call::expect_encoded_as_in;
 use handshake_by_hand::{KeyShare, KeyShareEntry};
 use std::alloc::Global;
 use std::test::Fail;
+use test_support::in_context::{expect_does_not_fit_in, expect_not_decoded_in};
 use tls_codec::{Error, TlsByteVec, TlsVecU16};
 
 const CLIENT_HELLO: u8 = 1;
@@ -36,34 +37,34 @@ fn of_a_client(rt: HostRuntime) -> Result<(), Fail> {
     let alloc = rt.alloc();
     let entry = x25519(alloc, &CLIENT_SHARES[6..])?;
     let share = KeyShare::ClientHello(TlsVecU16::new(Vec::from_array(alloc, [entry])?));
-    expect_spelled_in(&rt, alloc, &CLIENT_HELLO, &share, &CLIENT_SHARES)?;
-    expect_does_not_fit_in(&rt, alloc, &SERVER_HELLO, &share)?;
+    expect_encoded_as_in(alloc, "one", &CLIENT_HELLO, &share, &CLIENT_SHARES)?;
+    expect_does_not_fit_in(alloc, "one", &SERVER_HELLO, &share)?;
     let none = KeyShare::ClientHello(TlsVecU16::from_slice(alloc, &[])?);
-    expect_spelled_in(&rt, alloc, &CLIENT_HELLO, &none, &[0, 0])
+    expect_encoded_as_in(alloc, "none", &CLIENT_HELLO, &none, &[0, 0])
 }
 
 #[test]
 fn of_a_server(rt: HostRuntime) -> Result<(), Fail> {
     let alloc = rt.alloc();
     let share = KeyShare::ServerHello(x25519(alloc, &SERVER_SHARE[4..])?);
-    expect_spelled_in(&rt, alloc, &SERVER_HELLO, &share, &SERVER_SHARE)?;
-    expect_does_not_fit_in(&rt, alloc, &HELLO_RETRY_REQUEST, &share)
+    expect_encoded_as_in(alloc, "a key", &SERVER_HELLO, &share, &SERVER_SHARE)?;
+    expect_does_not_fit_in(alloc, "a key", &HELLO_RETRY_REQUEST, &share)
 }
 
 #[test]
 fn of_a_retry(rt: HostRuntime) -> Result<(), Fail> {
     let alloc = rt.alloc();
     let share = KeyShare::HelloRetryRequest(0x0018);
-    expect_spelled_in(&rt, alloc, &HELLO_RETRY_REQUEST, &share, &[0, 0x18])?;
-    expect_does_not_fit_in(&rt, alloc, &CLIENT_HELLO, &share)
+    expect_encoded_as_in(alloc, "a group", &HELLO_RETRY_REQUEST, &share, &[0, 0x18])?;
+    expect_does_not_fit_in(alloc, "a group", &CLIENT_HELLO, &share)
 }
 
 #[test]
 fn no_other_message_has_one(rt: HostRuntime) -> Result<(), Fail> {
     let alloc = rt.alloc();
-    expect_rejected_in::<_, KeyShare>(&rt, alloc, &8, &[0, 0x18], Error::UnknownValue(8));
+    let eight = Error::UnknownValue(8);
+    expect_not_decoded_in::<_, KeyShare>(alloc, "8", &8, &[0, 0x18], eight, eight)?;
     let empty = [0, 0x1d, 0, 0];
     let invalid = Error::InvalidVectorLength;
-    expect_rejected_in::<_, KeyShare>(&rt, alloc, &SERVER_HELLO, &empty, invalid);
-    Ok(())
+    expect_not_decoded_in::<_, KeyShare>(alloc, "no key", &SERVER_HELLO, &empty, invalid, invalid)
 }

@@ -1,10 +1,10 @@
 //! Arrays of what isn't a byte, by their bytes (RFC 8446, section 3.4).
-use crate::tests::each_call::{expect_encoded_as, expect_rejected};
 use crate::tests::{holds, same};
 use messages_of_each_shape::{Line, Pixel, ThreeData};
 use std::alloc::Global;
 use std::process::Abort;
 use std::test::Fail;
+use test_support::each_call::{expect_encoded_as, expect_rejected};
 use tls_codec::{Error, Serialize, TlsVec};
 
 fn three_data(alloc: Global, data: &[[u8; 3]]) -> Result<ThreeData, Error> {
@@ -27,14 +27,15 @@ fn expect_not_written<T: Serialize>(rt: &impl Abort, alloc: Global, value: &T) {
 fn data_of_three_bytes(rt: HostRuntime) -> Result<(), Fail> {
     let alloc = rt.alloc();
     let three = three_data(alloc, &[[1, 2, 3], [4, 5, 6], [7, 8, 9]])?;
-    expect_encoded_as(&rt, alloc, &three, &[1, 2, 3, 4, 5, 6, 7, 8, 9])?;
-    for cut in [
+    expect_encoded_as(alloc, "nine bytes", &three, &[1, 2, 3, 4, 5, 6, 7, 8, 9])?;
+    for bytes in [
         [].as_slice(),
         &[1],
         &[1, 2, 3, 4, 5, 6],
         &[1, 2, 3, 4, 5, 6, 7, 8],
     ] {
-        expect_rejected::<ThreeData>(&rt, alloc, cut, Error::EndOfStream);
+        let row = format!(in alloc; "{bytes:?}")?;
+        expect_rejected::<ThreeData>(alloc, &row, bytes, Error::EndOfStream)?;
     }
     Ok(())
 }
@@ -58,7 +59,7 @@ fn structs(rt: HostRuntime) -> Result<(), Fail> {
         pixels: TlsVec::new(Vec::from_array(alloc, pixels)?),
         after: 6,
     };
-    expect_encoded_as(&rt, alloc, &line, &[0, 0, 0, 1, 2, 0, 3, 4, 0, 5, 0, 6])?;
-    expect_rejected::<Line>(&rt, alloc, &[0, 0, 0, 1, 2, 0, 3, 4], Error::EndOfStream);
-    Ok(())
+    let spelled = [0, 0, 0, 1, 2, 0, 3, 4, 0, 5, 0, 6];
+    expect_encoded_as(alloc, "two", &line, &spelled)?;
+    expect_rejected::<Line>(alloc, "one", &[0, 0, 0, 1, 2, 0, 3, 4], Error::EndOfStream)
 }

@@ -1,23 +1,16 @@
 //! Messages in a context: their tag is a number or a name of another struct.
-use crate::tests::in_context::{expect_does_not_fit_in, expect_rejected_in_by, expect_spelled_in};
+use crate::tests::{END, LENGTH, NOT_FILLED, NOT_THERE, TRAILING};
 use messages_of_each_shape::{ByVersion, CertificateType, CertificateTypeData, Entries, Entry};
 use std::alloc::Global;
 use std::test::Fail;
+use test_support::in_context::{
+    expect_does_not_fit_in, expect_encoded_as_in, expect_rejected_in_by,
+};
 use tls_codec::{Error, TlsByteVec, TlsVecU24, VLBytes};
 
 const X509: CertificateType = CertificateType::X509;
 
 const RAW: CertificateType = CertificateType::RawPublicKey;
-
-const END: Error = Error::EndOfStream;
-
-const TRAILING: Error = Error::TrailingData;
-
-const LENGTH: Error = Error::InvalidVectorLength;
-
-const NOT_THERE: Error = Error::DecodingError("declared content is not there");
-
-const NOT_FILLED: Error = Error::DecodingError("elements do not fill the declared length");
 
 #[test]
 fn by_a_number(rt: HostRuntime) -> Result<(), Fail> {
@@ -32,9 +25,10 @@ fn by_a_number(rt: HostRuntime) -> Result<(), Fail> {
         (2, long, &[0, 0, 0, 1, 1, 7, 8], [1, 3, 0x0102]),
         (3, ByVersion::Case3, &[], [1, 2, 0]),
     ] {
-        expect_spelled_in(&rt, alloc, &version, &value, bytes)?;
+        let row = format!(in alloc; "{bytes:?}")?;
+        expect_encoded_as_in(alloc, &row, &version, &value, bytes)?;
         for other in others {
-            expect_does_not_fit_in(&rt, alloc, &other, &value)?;
+            expect_does_not_fit_in(alloc, &row, &other, &value)?;
         }
     }
     Ok(())
@@ -65,7 +59,8 @@ fn rejected_by_a_number(rt: HostRuntime) -> Result<(), Fail> {
         (2, &[0, 0, 0, 1, 0, 7, 8], TRAILING, TRAILING),
         (2, &[0, 0, 0, 1, 3, 7, 8], NOT_THERE, END),
     ] {
-        expect_rejected_in_by::<_, ByVersion>(&rt, alloc, &version, bytes, of_slice, of_source);
+        let row = format!(in alloc; "{bytes:?}")?;
+        expect_rejected_in_by::<_, ByVersion>(alloc, &row, &version, bytes, of_slice, of_source)?;
     }
     Ok(())
 }
@@ -100,8 +95,9 @@ fn by_a_name(rt: HostRuntime) -> Result<(), Fail> {
         (RAW, X509, raw(alloc, &[10, 11])?, &[2, 10, 11]),
         (RAW, X509, raw(alloc, &[])?, &[0]),
     ] {
-        expect_spelled_in(&rt, alloc, &kind, &body, bytes)?;
-        expect_does_not_fit_in(&rt, alloc, &other, &body)?;
+        let row = format!(in alloc; "{bytes:?}")?;
+        expect_encoded_as_in(alloc, &row, &kind, &body, bytes)?;
+        expect_does_not_fit_in(alloc, &row, &other, &body)?;
     }
     Ok(())
 }
@@ -123,8 +119,9 @@ fn among_fields(rt: HostRuntime) -> Result<(), Fail> {
             &[1, 2, 10, 11, 0, 3, 1, 4],
         ),
     ] {
-        expect_spelled_in(&rt, alloc, &kind, &entry, bytes)?;
-        expect_does_not_fit_in(&rt, alloc, &other, &entry)?;
+        let row = format!(in alloc; "{bytes:?}")?;
+        expect_encoded_as_in(alloc, &row, &kind, &entry, bytes)?;
+        expect_does_not_fit_in(alloc, &row, &other, &entry)?;
     }
     Ok(())
 }
@@ -150,7 +147,8 @@ fn rejected_among_fields(rt: HostRuntime) -> Result<(), Fail> {
             TRAILING,
         ),
     ] {
-        expect_rejected_in_by::<_, Entry>(&rt, alloc, &kind, bytes, of_slice, of_source);
+        let row = format!(in alloc; "{bytes:?}")?;
+        expect_rejected_in_by::<_, Entry>(alloc, &row, &kind, bytes, of_slice, of_source)?;
     }
     Ok(())
 }
@@ -184,8 +182,9 @@ fn lists(rt: HostRuntime) -> Result<(), Fail> {
             count: 2,
             entries: TlsVecU24::new(entries),
         };
-        expect_spelled_in(&rt, alloc, &kind, &entries, bytes)?;
-        expect_does_not_fit_in(&rt, alloc, &other, &entries)?;
+        let row = format!(in alloc; "{bytes:?}")?;
+        expect_encoded_as_in(alloc, &row, &kind, &entries, bytes)?;
+        expect_does_not_fit_in(alloc, &row, &other, &entries)?;
     }
     Ok(())
 }
@@ -207,8 +206,8 @@ fn no_entry_and_entries_of_two_cases(rt: HostRuntime) -> Result<(), Fail> {
         entries: TlsVecU24::new(Vec::from_array(alloc, both)?),
     };
     for kind in [X509, RAW] {
-        expect_spelled_in(&rt, alloc, &kind, &none, &[0, 0, 0, 0])?;
-        expect_does_not_fit_in(&rt, alloc, &kind, &both)?;
+        expect_encoded_as_in(alloc, "no entry", &kind, &none, &[0, 0, 0, 0])?;
+        expect_does_not_fit_in(alloc, "two cases", &kind, &both)?;
     }
     Ok(())
 }
@@ -236,7 +235,8 @@ fn rejected_lists(rt: HostRuntime) -> Result<(), Fail> {
         (RAW, &[1, 0, 0, 7, 1, 1, 10, 0, 3, 0], END, END),
         (X509, &[1, 0, 0, 6, 1, 1, 10, 0, 3, 0], END, END),
     ] {
-        expect_rejected_in_by::<_, Entries>(&rt, alloc, &kind, bytes, of_slice, of_source);
+        let row = format!(in alloc; "{bytes:?}")?;
+        expect_rejected_in_by::<_, Entries>(alloc, &row, &kind, bytes, of_slice, of_source)?;
     }
     Ok(())
 }

@@ -1,14 +1,13 @@
 //! Messages whose parts are on a tag in a field before them.
-use crate::tests::each_call::{expect_encoded_as, expect_rejected};
-use crate::tests::{expect_does_not_fit, one_byte, same};
+use crate::tests::{expect_does_not_fit, one_byte};
 use messages_of_each_shape::{
     Bearer, BodyKind, BodyKindData, ByVersion, Carrier, Header, KindBody, NameType, NameTypeData,
     Named, Versioned,
 };
 use std::alloc::Global;
-use std::process::Abort;
 use std::test::Fail;
-use tls_codec::{Error, Serialize, TlsVecU16, VLBytes};
+use test_support::each_call::{expect_encoded_as, expect_encoded_as_vl, expect_rejected};
+use tls_codec::{Error, TlsVecU16, VLBytes};
 
 fn chat(first: u8, code: u16) -> KindBody {
     KindBody {
@@ -40,13 +39,14 @@ static CARRIER: [u8; 17] = [
 #[test]
 fn a_tag_before_what_it_decides(rt: HostRuntime) -> Result<(), Fail> {
     let alloc = rt.alloc();
-    expect_encoded_as(&rt, alloc, &carrier(alloc, chat(9, 0x0102))?, &CARRIER)?;
+    let chats = carrier(alloc, chat(9, 0x0102))?;
+    expect_encoded_as(alloc, "chats", &chats, &CARRIER)?;
     let file = KindBody {
         first: 9,
         body: BodyKindData::File(one_byte(alloc, 1)?),
     };
     expect_does_not_fit(&rt, alloc, &carrier(alloc, file)?);
-    expect_rejected::<Carrier>(&rt, alloc, &[3, 9], Error::UnknownValue(3));
+    expect_rejected::<Carrier>(alloc, "3", &[3, 9], Error::UnknownValue(3))?;
     Ok(())
 }
 
@@ -67,11 +67,11 @@ fn bearer(alloc: Global, number: u8, body: NameTypeData) -> Result<Bearer, Error
 fn a_struct_before_what_its_tag_decides(rt: HostRuntime) -> Result<(), Fail> {
     let alloc = rt.alloc();
     let host = bearer(alloc, 0, NameTypeData::HostName(8))?;
-    expect_encoded_as(&rt, alloc, &host, &[5, 1, 0, 8, 1, 0xaa])?;
+    expect_encoded_as_vl(alloc, "a host", &host, &[5, 1, 0, 8, 1, 0xaa])?;
     let other = bearer(alloc, 7, NameTypeData::Case7(one_byte(alloc, 0xb1)?))?;
-    expect_encoded_as(&rt, alloc, &other, &[5, 1, 7, 1, 0xb1, 1, 0xaa])?;
+    expect_encoded_as_vl(alloc, "another", &other, &[5, 1, 7, 1, 0xb1, 1, 0xaa])?;
     expect_does_not_fit(&rt, alloc, &bearer(alloc, 7, NameTypeData::HostName(8))?);
-    expect_rejected::<Bearer>(&rt, alloc, &[5, 1, 9, 8, 1, 0xaa], Error::UnknownValue(9));
+    expect_rejected::<Bearer>(alloc, "9", &[5, 1, 9, 8, 1, 0xaa], Error::UnknownValue(9))?;
     Ok(())
 }
 
@@ -90,7 +90,7 @@ fn a_number_before_what_it_decides(rt: HostRuntime) -> Result<(), Fail> {
             last: 6,
         },
     };
-    expect_encoded_as(&rt, alloc, &value, &[0, 2, 0, 0, 0, 0, 1, 1, 0xb1, 6])?;
-    expect_rejected::<Versioned>(&rt, alloc, &[0, 4, 0], Error::UnknownValue(4));
+    expect_encoded_as_vl(alloc, "2", &value, &[0, 2, 0, 0, 0, 0, 1, 1, 0xb1, 6])?;
+    expect_rejected::<Versioned>(alloc, "4", &[0, 4, 0], Error::UnknownValue(4))?;
     Ok(())
 }

@@ -1,21 +1,11 @@
 //! Messages of MLS (RFC 9420), encoded field by field.
-use crate::tests::each_call::expect_encoded_as;
-use crate::tests::{holds, same, same_at};
+use crate::tests::{END, LENGTH, NOT_FILLED, NOT_THERE, TRAILING, holds, same, same_at};
 use mls::{CipherSuite, Credential, LeafNodeOrigin, Lifetime, MLSMessage, MLSMessageBody, Sender};
 use std::alloc::Global;
 use std::process::Abort;
 use std::test::Fail;
+use test_support::each_call::expect_encoded_as_vl;
 use tls_codec::{Deserialize, DeserializeBytes, Error, VLBytes};
-
-const END: Error = Error::EndOfStream;
-
-const LENGTH: Error = Error::InvalidVectorLength;
-
-const TRAILING: Error = Error::TrailingData;
-
-const NOT_FILLED: Error = Error::DecodingError("elements do not fill the declared length");
-
-const NOT_THERE: Error = Error::DecodingError("declared content is not there");
 
 // A key package (sections 6, 10, 7.2 and 5.3), a part of it a line.
 pub(super) static KEY_PACKAGE: [u8; 79] = [
@@ -199,28 +189,28 @@ static COMMIT_LENGTHS: [(usize, &[Error]); 24] = [
 static COMMIT_TAGS: [usize; 10] = [1, 3, 14, 21, 23, 25, 30, 34, 42, 68];
 
 // Read by each decoder, and written again to the same bytes.
-fn expect_message(rt: &impl Abort, alloc: Global, bytes: &[u8]) -> Result<MLSMessage, Fail> {
+fn expect_message(alloc: Global, row: &str, bytes: &[u8]) -> Result<MLSMessage, Fail> {
     let message = MLSMessage::tls_deserialize_exact_bytes(alloc, bytes)?;
-    expect_encoded_as(rt, alloc, &message, bytes)?;
+    expect_encoded_as_vl(alloc, row, &message, bytes)?;
     Ok(message)
 }
 
 #[test]
 fn each_wire_format(rt: HostRuntime) -> Result<(), Fail> {
     let alloc = rt.alloc();
-    let message = expect_message(&rt, alloc, &COMMIT)?;
+    let message = expect_message(alloc, "a commit", &COMMIT)?;
     holds(
         &rt,
         matches!(message.body, MLSMessageBody::MlsPublicMessage(_)),
     );
-    let message = expect_message(&rt, alloc, &PRIVATE_MESSAGE)?;
+    let message = expect_message(alloc, "a private message", &PRIVATE_MESSAGE)?;
     holds(
         &rt,
         matches!(message.body, MLSMessageBody::MlsPrivateMessage(_)),
     );
-    let message = expect_message(&rt, alloc, &WELCOME)?;
+    let message = expect_message(alloc, "a welcome", &WELCOME)?;
     holds(&rt, matches!(message.body, MLSMessageBody::MlsWelcome(_)));
-    let message = expect_message(&rt, alloc, &GROUP_INFO)?;
+    let message = expect_message(alloc, "a group info", &GROUP_INFO)?;
     holds(&rt, matches!(message.body, MLSMessageBody::MlsGroupInfo(_)));
     Ok(())
 }
@@ -228,7 +218,7 @@ fn each_wire_format(rt: HostRuntime) -> Result<(), Fail> {
 #[test]
 fn a_key_package(rt: HostRuntime) -> Result<(), Fail> {
     let alloc = rt.alloc();
-    let message = expect_message(&rt, alloc, &KEY_PACKAGE)?;
+    let message = expect_message(alloc, "a key package", &KEY_PACKAGE)?;
     let MLSMessageBody::MlsKeyPackage(package) = message.body else {
         panic!(rt; "no key package");
     };

@@ -1,21 +1,14 @@
 //! Messages with a select in its length, or with one case alone; and names that a type or a field can't have.
-use crate::tests::each_call::{expect_encoded_as, expect_rejected, expect_rejected_by};
-use crate::tests::one_byte;
+use crate::tests::{END, NOT_FILLED, NOT_THERE, TRAILING, one_byte};
 use messages_of_each_shape::{
     CertificateType, EmptyType, FormX04, Header, MagicX0102, NameTypeHostName, Point, ServerName,
     SessionTicket, SizedType, Trees, VersionData, VersionXfefd,
 };
-use std::alloc::Global;
 use std::test::Fail;
-use tls_codec::{Error, TlsByteVec, VLBytes};
-
-const END: Error = Error::EndOfStream;
-
-const TRAILING: Error = Error::TrailingData;
-
-const NOT_THERE: Error = Error::DecodingError("declared content is not there");
-
-const NOT_FILLED: Error = Error::DecodingError("elements do not fill the declared length");
+use test_support::each_call::{
+    expect_encoded_as, expect_encoded_as_vl, expect_rejected, expect_rejected_by,
+};
+use tls_codec::{Error, TlsByteVec};
 
 // `before`, the tag, the length of the case's fields, these, and `after`.
 #[test]
@@ -26,17 +19,17 @@ fn cases_in_their_lengths(rt: HostRuntime) -> Result<(), Fail> {
         long: one_byte(alloc, 6)?,
     };
     let one = VersionData::Case11(one_byte(alloc, 6)?);
-    for (contents, spelled) in [
-        (two, [1, 0, 7, 0, 3, 5, 1, 6, 9].as_slice()),
-        (VersionData::Case9, &[1, 0, 9, 0, 0, 9]),
-        (one, &[1, 0, 11, 0, 2, 1, 6, 9]),
+    for (row, contents, spelled) in [
+        ("two fields", two, [1, 0, 7, 0, 3, 5, 1, 6, 9].as_slice()),
+        ("no field", VersionData::Case9, &[1, 0, 9, 0, 0, 9]),
+        ("one field", one, &[1, 0, 11, 0, 2, 1, 6, 9]),
     ] {
         let sized = SizedType {
             before: 1,
             contents,
             after: 9,
         };
-        expect_encoded_as(&rt, alloc, &sized, spelled)?;
+        expect_encoded_as_vl(alloc, row, &sized, spelled)?;
     }
     Ok(())
 }
@@ -66,11 +59,13 @@ static SIZED: [(&[u8], Error, Error); 11] = [
 ];
 
 #[test]
-fn cases_in_other_lengths(rt: HostRuntime) {
+fn cases_in_other_lengths(rt: HostRuntime) -> Result<(), Fail> {
     let alloc = rt.alloc();
     for (bytes, of_slice, of_source) in SIZED {
-        expect_rejected_by::<SizedType>(&rt, alloc, bytes, of_slice, of_source);
+        let row = format!(in alloc; "{bytes:?}")?;
+        expect_rejected_by::<SizedType>(alloc, &row, bytes, of_slice, of_source)?;
     }
+    Ok(())
 }
 
 // The tag is a constant, and the case's field has the select's name.
@@ -81,14 +76,15 @@ fn one_case_of_one_field(rt: HostRuntime) -> Result<(), Fail> {
         name_type: NameTypeHostName::HostName,
         name: TlsByteVec::from_slice(alloc, b"hi")?,
     };
-    expect_encoded_as(&rt, alloc, &name, &[0, 0, 2, 0x68, 0x69])?;
+    expect_encoded_as(alloc, "a host", &name, &[0, 0, 2, 0x68, 0x69])?;
     for (bytes, error) in [
         ([1, 0, 2, 0x68, 0x69].as_slice(), Error::UnknownValue(1)),
         (&[0, 0, 0], Error::InvalidVectorLength),
         (&[0, 0, 3, 0x68, 0x69], END),
         (&[0, 0, 1, 0x68, 0x69], TRAILING),
     ] {
-        expect_rejected::<ServerName>(&rt, alloc, bytes, error);
+        let row = format!(in alloc; "{bytes:?}")?;
+        expect_rejected::<ServerName>(alloc, &row, bytes, error)?;
     }
     Ok(())
 }
@@ -101,7 +97,7 @@ fn one_case_of_two_fields(rt: HostRuntime) -> Result<(), Fail> {
         x: one_byte(alloc, 7)?,
         y: one_byte(alloc, 8)?,
     };
-    expect_encoded_as(&rt, alloc, &point, &[4, 1, 7, 1, 8])?;
+    expect_encoded_as_vl(alloc, "a point", &point, &[4, 1, 7, 1, 8])?;
     for (bytes, of_slice, of_source) in [
         (
             [3, 1, 7, 1, 8].as_slice(),
@@ -113,7 +109,8 @@ fn one_case_of_two_fields(rt: HostRuntime) -> Result<(), Fail> {
         (&[4, 1, 7, 2, 8], NOT_THERE, END),
         (&[4, 1, 7, 0, 8], TRAILING, TRAILING),
     ] {
-        expect_rejected_by::<Point>(&rt, alloc, bytes, of_slice, of_source);
+        let row = format!(in alloc; "{bytes:?}")?;
+        expect_rejected_by::<Point>(alloc, &row, bytes, of_slice, of_source)?;
     }
     Ok(())
 }
@@ -129,7 +126,7 @@ fn names_and_constants(rt: HostRuntime) -> Result<(), Fail> {
         magic: MagicX0102::X0102,
         wide: 0x0809,
     };
-    expect_encoded_as(&rt, alloc, &ticket, &[1, 7, 3, 254, 253, 1, 2, 8, 9])?;
+    expect_encoded_as_vl(alloc, "a ticket", &ticket, &[1, 7, 3, 254, 253, 1, 2, 8, 9])?;
     // Other constants; then a length one less and one more, after which other bytes are there for the constants.
     for (bytes, value) in [
         ([1, 7, 3, 253, 254, 1, 2, 8, 9].as_slice(), 0xfdfe),
@@ -137,7 +134,8 @@ fn names_and_constants(rt: HostRuntime) -> Result<(), Fail> {
         (&[0, 7, 3, 254, 253, 1, 2, 8, 9], 0x03fe),
         (&[2, 7, 3, 254, 253, 1, 2, 8, 9], 0xfd01),
     ] {
-        expect_rejected::<SessionTicket>(&rt, alloc, bytes, Error::UnknownValue(value));
+        let row = format!(in alloc; "{bytes:?}")?;
+        expect_rejected::<SessionTicket>(alloc, &row, bytes, Error::UnknownValue(value))?;
     }
     Ok(())
 }
@@ -149,7 +147,7 @@ fn lists_of_options_of_lists(rt: HostRuntime) -> Result<(), Fail> {
     let trees = Trees {
         tree: Vec::from_array(alloc, [Some(row), None])?,
     };
-    expect_encoded_as(&rt, alloc, &trees, &[5, 1, 2, 0, 5, 0])?;
+    expect_encoded_as(alloc, "a list", &trees, &[5, 1, 2, 0, 5, 0])?;
     let option = Error::DecodingError("option tag is not 0 or 1");
     for (bytes, of_slice, of_source) in [
         ([4, 1, 2, 0, 5, 0].as_slice(), TRAILING, TRAILING),
@@ -158,7 +156,8 @@ fn lists_of_options_of_lists(rt: HostRuntime) -> Result<(), Fail> {
         (&[5, 1, 3, 0, 5, 0], END, END),
         (&[5, 2, 2, 0, 5, 0], option, option),
     ] {
-        expect_rejected_by::<Trees>(&rt, alloc, bytes, of_slice, of_source);
+        let row = format!(in alloc; "{bytes:?}")?;
+        expect_rejected_by::<Trees>(alloc, &row, bytes, of_slice, of_source)?;
     }
     Ok(())
 }
@@ -171,11 +170,11 @@ fn headers_and_types(rt: HostRuntime) -> Result<(), Fail> {
         version: 0x0102,
         rest_: one_byte(alloc, 7)?,
     };
-    expect_encoded_as(&rt, alloc, &header, &[1, 2, 1, 7])?;
-    expect_rejected_by::<Header>(&rt, alloc, &[1, 2, 2, 7], NOT_THERE, END);
-    expect_rejected::<Header>(&rt, alloc, &[1, 2, 0, 7], TRAILING);
-    expect_encoded_as(&rt, alloc, &CertificateType::X509, &[0])?;
-    expect_encoded_as(&rt, alloc, &CertificateType::RawPublicKey, &[2])?;
-    expect_rejected::<CertificateType>(&rt, alloc, &[1], Error::UnknownValue(1));
+    expect_encoded_as_vl(alloc, "a header", &header, &[1, 2, 1, 7])?;
+    expect_rejected_by::<Header>(alloc, "one more", &[1, 2, 2, 7], NOT_THERE, END)?;
+    expect_rejected::<Header>(alloc, "one less", &[1, 2, 0, 7], TRAILING)?;
+    expect_encoded_as(alloc, "X509", &CertificateType::X509, &[0])?;
+    expect_encoded_as(alloc, "RawPublicKey", &CertificateType::RawPublicKey, &[2])?;
+    expect_rejected::<CertificateType>(alloc, "1", &[1], Error::UnknownValue(1))?;
     Ok(())
 }

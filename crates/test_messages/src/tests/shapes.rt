@@ -1,26 +1,27 @@
 //! Messages of shapes that those of TLS 1.3 and of MLS lack.
-use crate::tests::each_call::{expect_encoded_as, expect_rejected, expect_written};
 use crate::tests::one_byte;
 use messages_of_each_shape::{
     Bounded, ContentTypeData, Framed, Identity, Level, Lists, NameType, NodeTBS, NodeTBSOrigin,
     Wide,
 };
-use std::alloc::Global;
 use std::test::Fail;
+use test_support::each_call::{
+    expect_encoded_as, expect_encoded_as_vl, expect_rejected, expect_written_and_cloned,
+};
 use tls_codec::{
     Error, TlsByteVec, TlsByteVecU8, TlsByteVecU16, TlsByteVecU24, TlsByteVecU32, TlsVec, TlsVecU8,
-    TlsVecU16, TlsVecU24, TlsVecU32, U24, VLBytes,
+    TlsVecU16, TlsVecU24, TlsVecU32, U24,
 };
 
 #[test]
 fn values(rt: HostRuntime) -> Result<(), Fail> {
     let alloc = rt.alloc();
-    expect_encoded_as(&rt, alloc, &Level::Low, &[0, 1])?;
-    expect_encoded_as(&rt, alloc, &Level::Middle, &[1, 0])?;
-    expect_encoded_as(&rt, alloc, &Level::High, &[0xff, 0xff])?;
-    expect_rejected::<Level>(&rt, alloc, &[0, 2], Error::UnknownValue(2));
-    expect_encoded_as(&rt, alloc, &NameType::HOST_NAME, &[0])?;
-    expect_encoded_as(&rt, alloc, &NameType(6), &[6])?;
+    expect_encoded_as(alloc, "low", &Level::Low, &[0, 1])?;
+    expect_encoded_as(alloc, "middle", &Level::Middle, &[1, 0])?;
+    expect_encoded_as(alloc, "high", &Level::High, &[0xff, 0xff])?;
+    expect_rejected::<Level>(alloc, "2", &[0, 2], Error::UnknownValue(2))?;
+    expect_encoded_as(alloc, "host_name", &NameType::HOST_NAME, &[0])?;
+    expect_encoded_as(alloc, "no name", &NameType(6), &[6])?;
     Ok(())
 }
 
@@ -34,15 +35,15 @@ fn tags(rt: HostRuntime) -> Result<(), Fail> {
         since: 9,
         last: Some(one_byte(alloc, 0xbb)?),
     };
-    expect_encoded_as(
-        &rt,
+    expect_encoded_as_vl(
         alloc,
+        "full",
         &full,
         &[0, 4, 2, 1, 0, 1, 0xaa, 0, 0, 0, 9, 1, 1, 0xbb],
     )?;
-    expect_encoded_as(&rt, alloc, &Identity::Anonymous, &[0, 5])?;
-    expect_rejected::<Identity>(&rt, alloc, &[0, 0], Error::UnknownValue(0));
-    expect_rejected::<Identity>(&rt, alloc, &[0, 6, 1, 9], Error::UnknownValue(6));
+    expect_encoded_as(alloc, "anonymous", &Identity::Anonymous, &[0, 5])?;
+    expect_rejected::<Identity>(alloc, "0", &[0, 0], Error::UnknownValue(0))?;
+    expect_rejected::<Identity>(alloc, "6", &[0, 6, 1, 9], Error::UnknownValue(6))?;
     Ok(())
 }
 
@@ -57,9 +58,9 @@ fn selects(rt: HostRuntime) -> Result<(), Fail> {
         },
         signature: one_byte(alloc, 0xc)?,
     };
-    expect_encoded_as(
-        &rt,
+    expect_encoded_as_vl(
         alloc,
+        "application",
         &framed,
         &[0, 0, 0, 1, 1, 1, 0xa, 1, 0xb, 1, 0xc],
     )?;
@@ -72,9 +73,9 @@ fn selects(rt: HostRuntime) -> Result<(), Fail> {
         },
         signature: one_byte(alloc, 0xc)?,
     };
-    expect_encoded_as(
-        &rt,
+    expect_encoded_as_vl(
         alloc,
+        "proposal",
         &framed,
         &[0, 0, 0, 1, 2, 1, 0xa, 1, 0xd, 3, 1, 0xc],
     )?;
@@ -102,7 +103,7 @@ fn twelve_fields(rt: HostRuntime) -> Result<(), Fail> {
         1, 2, 3, 4, 0, 0, 0, 5, 0, 0, 0, 0, 0, 0, 0, 6, 7, 7, 7, 7, 7, 7, 7, 7, 7, 7, 7, 7, 7, 7,
         7, 7, 1, 8, 0, 1, 9, 0, 0, 1, 10, 0, 0, 0, 1, 11, 0, 2, 1, 12, 2, 0x68, 0x69, 1, 0, 13,
     ];
-    expect_encoded_as(&rt, alloc, &wide, &spelled)
+    expect_encoded_as_vl(alloc, "twelve", &wide, &spelled)
 }
 
 #[test]
@@ -122,7 +123,7 @@ fn lists(rt: HostRuntime) -> Result<(), Fail> {
         4, 0, 1, 0, 2, 0, 4, 0, 1, 1, 0, 0, 0, 2, 1, 3, 0, 0, 0, 2, 0, 5, 4, 2, 0, 4, 0, 0, 5, 2,
         6, 0, 2, 0, 7,
     ];
-    expect_encoded_as(&rt, alloc, &lists, &spelled)
+    expect_encoded_as_vl(alloc, "lists", &lists, &spelled)
 }
 
 #[test]
@@ -132,9 +133,10 @@ fn bounds(rt: HostRuntime) -> Result<(), Fail> {
         session: TlsByteVec::from_slice(alloc, &[9])?,
         suites: TlsVec::new(Vec::from_array(alloc, [3])?),
     };
-    expect_encoded_as(&rt, alloc, &bounded, &[1, 9, 0, 2, 0, 3])?;
-    for rejected in [[33].as_slice(), &[0, 0, 0], &[0, 0, 1, 3], &[0, 0xff, 0xff]] {
-        expect_rejected::<Bounded>(&rt, alloc, rejected, Error::InvalidVectorLength);
+    expect_encoded_as(alloc, "within", &bounded, &[1, 9, 0, 2, 0, 3])?;
+    for bytes in [[33].as_slice(), &[0, 0, 0], &[0, 0, 1, 3], &[0, 0xff, 0xff]] {
+        let row = format!(in alloc; "{bytes:?}")?;
+        expect_rejected::<Bounded>(alloc, &row, bytes, Error::InvalidVectorLength)?;
     }
     Ok(())
 }
@@ -144,23 +146,28 @@ fn borrowed_structs(rt: HostRuntime) -> Result<(), Fail> {
     let alloc = rt.alloc();
     let key = one_byte(alloc, 7)?;
     let parent_hash = one_byte(alloc, 9)?;
-    for (node_source, expected) in [
-        (NodeTBSOrigin::Update, [1, 7, 2, 0].as_slice()),
+    for (row, node_source, expected) in [
+        ("update", NodeTBSOrigin::Update, [1, 7, 2, 0].as_slice()),
         (
+            "commit",
             NodeTBSOrigin::Commit {
                 parent_hash: &parent_hash,
                 level: &4,
             },
             &[1, 7, 3, 1, 9, 4, 0],
         ),
-        (NodeTBSOrigin::from(&parent_hash), &[1, 7, 4, 1, 9, 0]),
+        (
+            "a hash",
+            NodeTBSOrigin::from(&parent_hash),
+            &[1, 7, 4, 1, 9, 0],
+        ),
     ] {
         let node = NodeTBS {
             key: &key,
             node_source,
             last: &None,
         };
-        expect_written(&rt, alloc, &node, expected)?;
+        expect_written_and_cloned(alloc, row, &node, expected)?;
     }
     Ok(())
 }

@@ -1,5 +1,4 @@
 //! What is signed or authenticated, borrowed from messages that were read (RFC 9420).
-use crate::tests::each_call::expect_written;
 use crate::tests::mls_messages::{COMMIT, GROUP_INFO, KEY_PACKAGE, PRIVATE_MESSAGE};
 use crate::tests::{DOES_NOT_FIT, expect_does_not_fit, same};
 use mls::{
@@ -11,6 +10,7 @@ use mls::{
 use std::alloc::Global;
 use std::process::Abort;
 use std::test::Fail;
+use test_support::each_call::expect_written_and_cloned;
 use tls_codec::{DeserializeBytes, Error, Serialize, VLBytes};
 
 fn read(alloc: Global, bytes: &[u8]) -> Result<MLSMessageBody, Error> {
@@ -81,7 +81,7 @@ fn the_information_of_a_group(rt: HostRuntime) -> Result<(), Fail> {
     let info = group_info(&rt, alloc)?;
     let signed = GroupInfoTBS::from(&info);
     let expected = part(&rt, alloc, &GROUP_INFO, 4, 34, &[])?;
-    expect_written(&rt, alloc, &signed, &expected)
+    expect_written_and_cloned(alloc, "a group info", &signed, &expected)
 }
 
 // Section 7.2, for a leaf node of a commit.
@@ -109,7 +109,7 @@ fn expect_leaf_written(
         leaf_node_source: origin,
     };
     let expected = part(rt, alloc, &COMMIT, 35, 77, &[1, 0xfa, 0, 0, 0, 2])?;
-    expect_written(rt, alloc, &signed, &expected)
+    expect_written_and_cloned(alloc, "a leaf node", &signed, &expected)
 }
 
 fn public_message(rt: &impl Abort, alloc: Global) -> Result<PublicMessage, Fail> {
@@ -178,16 +178,21 @@ fn a_commit(rt: HostRuntime) -> Result<(), Fail> {
     // The message up to its signature, and the group's context; then what authenticates it.
     let bytes = part(&rt, alloc, &GROUP_INFO, 4, 23, &[])?;
     let signed = part(&rt, alloc, &COMMIT, 0, 88, &bytes)?;
-    expect_written(&rt, alloc, &signed_content(&message, &context), &signed)?;
+    expect_written_and_cloned(
+        alloc,
+        "what is signed",
+        &signed_content(&message, &context),
+        &signed,
+    )?;
     // The label, the length of the content, and the content.
     let head = b"\x18MLS 1.0 FramedContentTBS\x40\x6b";
     let expected = part(&rt, alloc, head, 0, 27, &signed)?;
     let found = signed_message(alloc, &message, &context)?;
     same(&rt, found.as_slice(), expected.as_slice());
     let tagged = part(&rt, alloc, &signed, 0, signed.len(), &COMMIT[88..92])?;
-    expect_written(
-        &rt,
+    expect_written_and_cloned(
         alloc,
+        "what has a tag",
         &authenticated_content(&message, &context),
         &tagged,
     )?;
@@ -216,15 +221,15 @@ fn a_proposal(rt: HostRuntime) -> Result<(), Fail> {
         panic!(rt; "no public message");
     };
     same(&rt, &message.membership_tag, &None);
-    expect_written(
-        &rt,
+    expect_written_and_cloned(
         alloc,
+        "what is signed",
         &signed_content(&message, &None),
         &PROPOSAL[..28],
     )?;
-    expect_written(
-        &rt,
+    expect_written_and_cloned(
         alloc,
+        "what has a tag",
         &authenticated_content(&message, &None),
         &PROPOSAL,
     )?;
@@ -264,7 +269,7 @@ fn the_transcript_of_a_commit(rt: HostRuntime) -> Result<(), Fail> {
         signature: &message.auth.signature,
     };
     let expected = part(&rt, alloc, &COMMIT, 2, 90, &[])?;
-    expect_written(&rt, alloc, &hashed, &expected)
+    expect_written_and_cloned(alloc, "a transcript", &hashed, &expected)
 }
 
 // The label, and the length of what follows the version up to the membership tag.
@@ -305,12 +310,12 @@ fn additional_data(rt: HostRuntime) -> Result<(), Fail> {
         authenticated_data: &private.authenticated_data,
     };
     let expected = part(&rt, alloc, &PRIVATE_MESSAGE, 4, 16, &[])?;
-    expect_written(&rt, alloc, &content, &expected)?;
+    expect_written_and_cloned(alloc, "a content", &content, &expected)?;
     let sender = SenderDataAAD {
         group_id: &private.group_id,
         epoch: &private.epoch,
         content_type: &private.content_type,
     };
     let expected = part(&rt, alloc, &PRIVATE_MESSAGE, 4, 15, &[])?;
-    expect_written(&rt, alloc, &sender, &expected)
+    expect_written_and_cloned(alloc, "a sender", &sender, &expected)
 }

@@ -4,7 +4,7 @@ use crate::tests::extensions::{Found, Place, is_retry, open_all};
 use std::alloc::Global;
 use std::process::Abort;
 use std::test::Fail;
-use test_support::each_call::{expect_encoded_as, expect_rejected, expect_round_trip};
+use test_support::each_call::{expect_encoded_as, expect_rejected_prefix, expect_round_trip};
 use test_support::rows::{done_at, same, same_at};
 use tls_codec::DeserializeBytes;
 use tls13::{Alert, AlertDescription, AlertLevel, Handshake, HandshakeType};
@@ -92,7 +92,7 @@ fn other_messages(rt: HostRuntime) -> Result<(), Fail> {
     let alloc = rt.alloc();
     for row in &tls12::REJECTED {
         let bytes = bytes(&rt, alloc, row.digits)?;
-        expect_rejected::<Handshake>(alloc, row.name, &bytes, row.error)?;
+        expect_rejected_prefix::<Handshake>(alloc, row.name, &bytes, row.error)?;
     }
     Ok(())
 }

@@ -3,9 +3,8 @@ use crate::tests::captured::{Row, bytes, mtls};
 use std::alloc::Global;
 use std::process::Abort;
 use std::test::Fail;
-use test_support::each_call::{expect_encoded_as, expect_rejected_by};
-use test_support::rows::same_at;
-use tls_codec::{Deserialize, DeserializeBytes, Error, Serialize, TlsByteVecU24, U24};
+use test_support::each_call::{expect_encoded_as, expect_rejected, expect_rejected_prefix_by};
+use tls_codec::{Error, Serialize, TlsByteVecU24, U24};
 use tls13::{EndOfEarlyData, Handshake, KeyUpdate, KeyUpdateRequest};
 
 const END: Error = Error::EndOfStream;
@@ -103,7 +102,7 @@ static REJECTED: [(&str, &[u8], Error, Error); 15] = [
 fn rejected_lengths(rt: HostRuntime) -> Result<(), Fail> {
     let alloc = rt.alloc();
     for (row, bytes, of_slice, of_source) in REJECTED {
-        expect_rejected_by::<Handshake>(alloc, row, bytes, of_slice, of_source)?;
+        expect_rejected_prefix_by::<Handshake>(alloc, row, bytes, of_slice, of_source)?;
     }
     Ok(())
 }
@@ -112,12 +111,7 @@ fn rejected_lengths(rt: HostRuntime) -> Result<(), Fail> {
 #[test]
 fn a_finished_of_one_less(rt: HostRuntime) -> Result<(), Fail> {
     let alloc = rt.alloc();
-    let bytes = [20, 0, 0, 1, 8, 9];
-    let split = Handshake::tls_deserialize_exact_bytes(alloc, &bytes).err();
-    same_at("a slice", split, Some(TRAILING))?;
-    let read = Handshake::tls_deserialize_exact(alloc, &bytes).err();
-    same_at("a source", read, Some(TRAILING))?;
-    Ok(())
+    expect_rejected::<Handshake>(alloc, "one less", &[20, 0, 0, 1, 8, 9], TRAILING)
 }
 
 // Those of earlier versions, whose structure TLS 1.3 doesn't have, one of a transcript alone (254),
@@ -130,7 +124,7 @@ fn rejected_types(rt: HostRuntime) -> Result<(), Fail> {
     ] {
         let row = format!(in alloc; "type {kind}")?;
         let error = Error::UnknownValue(u64::from(kind));
-        expect_rejected_by::<Handshake>(alloc, &row, &[kind, 0, 0, 0], error, error)?;
+        expect_rejected_prefix_by::<Handshake>(alloc, &row, &[kind, 0, 0, 0], error, error)?;
     }
     Ok(())
 }
@@ -173,7 +167,7 @@ fn expect_lengths_rejected(rt: &impl Abort, alloc: Global, row: &Row) -> Result<
     ] {
         let name = format!(in alloc; "{}, {altered}", row.name)?;
         let bytes = spelled(alloc, *kind, length, body)?;
-        expect_rejected_by::<Handshake>(alloc, &name, &bytes, of_slice, of_source)?;
+        expect_rejected_prefix_by::<Handshake>(alloc, &name, &bytes, of_slice, of_source)?;
     }
     Ok(())
 }

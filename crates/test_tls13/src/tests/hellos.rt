@@ -1,6 +1,6 @@
 //! Hellos, alerts and lists of numbers of TLS 1.3 (RFC 8446).
 use std::test::Fail;
-use test_support::each_call::{expect_encoded_as, expect_rejected};
+use test_support::each_call::{expect_encoded_as, expect_rejected_prefix};
 use tls_codec::{Error, TlsByteVec, TlsByteVecU16, TlsVec};
 use tls13::{
     Alert, AlertDescription, AlertLevel, ClientHello, Extension, ExtensionType, NamedGroup,
@@ -75,7 +75,7 @@ fn client_hellos(rt: HostRuntime) -> Result<(), Fail> {
     ] {
         spelled.truncate(after);
         spelled.extend_from_slice(rejected)?;
-        expect_rejected::<ClientHello>(alloc, row, &spelled, Error::InvalidVectorLength)?;
+        expect_rejected_prefix::<ClientHello>(alloc, row, &spelled, Error::InvalidVectorLength)?;
     }
     Ok(())
 }
@@ -85,7 +85,7 @@ fn client_hellos(rt: HostRuntime) -> Result<(), Fail> {
 fn versions_of_hellos(rt: HostRuntime) -> Result<(), Fail> {
     let alloc = rt.alloc();
     let row = "TLS 1.0";
-    expect_rejected::<ClientHello>(alloc, row, &[3, 1], Error::UnknownValue(769))?;
+    expect_rejected_prefix::<ClientHello>(alloc, row, &[3, 1], Error::UnknownValue(769))?;
     Ok(())
 }
 

@@ -1,7 +1,7 @@
 //! Records of TLS 1.3 (RFC 8446, section 5), and the messages that they have, as docs/TLS13.md reads them.
 use std::alloc::Global;
 use std::test::Fail;
-use test_support::each_call::{expect_encoded_as, expect_rejected};
+use test_support::each_call::{expect_encoded_as, expect_rejected_prefix};
 use test_support::rows::same;
 use tls_codec::{DeserializeBytes, Error, Serialize, TlsByteVecU16, TlsByteVecU24, U24};
 use tls_codec_views::Encoded;
@@ -81,7 +81,7 @@ fn plaintexts(rt: HostRuntime) -> Result<(), Fail> {
     };
     expect_encoded_as(alloc, "another type", &record, &[25, 3, 3, 0, 1, 7])?;
     let bytes = [21, 3, 3, 0, 2, 2];
-    expect_rejected::<TLSPlaintext>(alloc, "one byte of two", &bytes, Error::EndOfStream)?;
+    expect_rejected_prefix::<TLSPlaintext>(alloc, "one byte of two", &bytes, Error::EndOfStream)?;
     Ok(())
 }
 
@@ -106,7 +106,7 @@ fn ciphertexts(rt: HostRuntime) -> Result<(), Fail> {
             Error::UnknownValue(0x0301),
         ),
     ] {
-        expect_rejected::<TLSCiphertext>(alloc, row, bytes, error)?;
+        expect_rejected_prefix::<TLSCiphertext>(alloc, row, bytes, error)?;
     }
     Ok(())
 }

@@ -88,15 +88,6 @@ fn a_log_from_a_source_that_fails(rt: HostRuntime) -> Result<(), Fail> {
 }
 
 #[test]
-fn a_list_from_a_source_that_fails(rt: HostRuntime) {
-    for at in 1..6u64 {
-        let mut source = Failing::new(Drip::new(&[4, 0, 1, 0, 2]), at, 1, Fault::Failed);
-        let refused = <Vec<u16>>::tls_deserialize(rt.alloc(), &mut source).err();
-        same_at(&rt, at, refused, Some(READ_FAILED));
-    }
-}
-
-#[test]
 fn a_log_into_a_sink_that_fails(rt: HostRuntime) -> Result<(), Fail> {
     let alloc = rt.alloc();
     let log = Log::tls_deserialize_exact_bytes(alloc, &LOG)?;
