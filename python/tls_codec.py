@@ -14,19 +14,28 @@ docs/CALLERS.md says what is proved and what is trusted.
 from __future__ import annotations
 
 import ctypes
+import os
 import pathlib
 from collections.abc import Callable, Iterator
-from typing import Union
+from typing import TypeVar, Union
 
 from tls_codec_exports import CALLS, FIELDS, MARK, STATUSES, VERSION, MlsWireFormat
 
 __version__ = VERSION
 Buffer = Union[bytes, bytearray, memoryview]
+Found = TypeVar("Found")
 
 
 def _plain(data: Buffer) -> bytes:
     """The bytes themselves, or a copy of those in a buffer, such as `recv_into` fills."""
     return data if isinstance(data, bytes) else bytes(memoryview(data))
+
+
+def varint_value(varint: bytes) -> int:
+    """The number that the bytes of a variable-length integer are, such as `validate_prefix("tls_codec_varint", ..)` returns."""
+    if not varint or len(varint) != 1 << (varint[0] >> 6):
+        raise ValueError(f"{varint.hex()!r} has not the width that it begins with")
+    return int.from_bytes(varint, "big") & ((1 << (8 * len(varint) - 2)) - 1)
 
 
 class Outcome(ctypes.Structure):
@@ -45,28 +54,37 @@ class Span(ctypes.Structure):
 
 
 class Rejected(ValueError):
-    """Why bytes are rejected: `error`, a name of STATUSES in tls_codec_exports, and `status`, its number; `at`, where the rejected field
-    begins; and `detail`, the value of an UnknownValue, or 0."""
+    """Why bytes are rejected: `error`, a name of STATUSES in tls_codec_exports, and `status`, its number; `at`, where the rejected field or
+    the rest begins, and None of a field that the decoder rejects; and `detail`, the value of an UnknownValue, or 0."""
 
-    def __init__(self, status: int, at: int, detail: int = 0) -> None:
+    def __init__(self, status: int, at: int | None, detail: int = 0) -> None:
         self.status, self.at, self.detail = status, at, detail
         self.error = STATUSES[status] if status < len(STATUSES) else str(status)
         number = f" ({detail})" if self.error == "UnknownValue" else ""
-        super().__init__(f"{self.error}{number} at byte {at}")
+        super().__init__(f"{self.error}{number}" + ("" if at is None else f" at byte {at}"))
+
+
+def _whole(data: Buffer, found: Found, rest: bytes) -> Found:
+    """What was found in the bytes, if there is no rest."""
+    if rest:
+        raise Rejected(STATUSES.index("TrailingData"), memoryview(data).nbytes - len(rest))
+    return found
 
 
 class Validators:
     """The calls of a shared object. tls_codec.version of its archives has to lie beside it, and to have the line MARK of tls_codec_exports:
     else an ImportError says what it has."""
 
-    def __init__(self, path: str) -> None:
-        mark = pathlib.Path(path).with_name("tls_codec.version")
+    def __init__(self, path: str | os.PathLike[str]) -> None:
+        # (a name without a folder would be looked for elsewhere than its mark)
+        found_at = pathlib.Path(path).resolve()
+        mark = found_at.with_name("tls_codec.version")
         if not mark.is_file():
             raise ImportError(f"{mark} is not there: tools/archives.py --shared puts it beside the shared object")
         found = mark.read_text(encoding="utf-8").strip()
         if found != MARK:
             raise ImportError(f"{mark} has {found!r}, and this module is of {MARK!r}")
-        self.library = ctypes.CDLL(path)
+        self.library = ctypes.CDLL(str(found_at))
 
     def _named(self, subject: str, ending: str = "") -> Callable[..., Outcome]:
         """The function of this name and its ending. A LookupError lists the names that have this ending."""
@@ -83,7 +101,7 @@ class Validators:
             raise LookupError(f"this shared object has no {name!r}") from None
 
     def outcome(self, name: str, data: Buffer, *filled: object) -> Outcome:
-        """What a function says of the bytes, which is named as in the headers. It is given what it is to fill."""
+        """For tests: what a function of the headers says of the bytes. Pass just what it fills: fewer or smaller is undefined behaviour."""
         return self._outcome_of(self._named(name), data, *filled)
 
     def _outcome_of(self, call: Callable[..., Outcome], data: Buffer, *filled: object) -> Outcome:
@@ -107,28 +125,32 @@ class Validators:
 
     def validate(self, message: str, data: Buffer) -> bytes:
         """The message, if nothing comes after it."""
-        found, rest = self.validate_prefix(message, data)
-        if rest:
-            raise Rejected(STATUSES.index("TrailingData"), len(found))
-        return found
+        return _whole(data, *self.validate_prefix(message, data))
 
-    def locate(self, message: str, data: Buffer, whole: bool = True) -> dict[str, bytes]:
-        """Validates the message, and returns its fields by the names that its struct has in the headers, in that order.
-
-        If it isn't to be the whole, other bytes may come after it. WITH_LENGTH of tls_codec_exports has the fields whose bytes begin with a
-        length, such as a list's.
-        """
+    def locate_prefix(self, message: str, data: Buffer) -> tuple[dict[str, bytes], bytes]:
+        """Validates the message that the bytes begin with: its fields, by the names that its struct has in the headers, in that order, and
+        the rest. WITH_LENGTH of tls_codec_exports has the fields whose bytes begin with a length, such as a list's."""
         call, data = self._named(message, "_locate"), _plain(data)
         names = FIELDS[message]
         spans = (Span * len(names))()
         outcome = self._accepted(call, data, spans)
-        if whole and outcome.taken != len(data):
-            raise Rejected(STATUSES.index("TrailingData"), outcome.taken)
-        return {name: span.of(data) for name, span in zip(names, spans)}
+        return {name: span.of(data) for name, span in zip(names, spans)}, data[outcome.taken :]
 
-    def decode_check(self, message: str, data: Buffer) -> Outcome:
-        """What the decoder says: the status is 0 if the bytes begin with the message, which has `taken` bytes."""
-        return self._outcome_of(self._named(message, "_decode_check"), data)
+    def locate(self, message: str, data: Buffer) -> dict[str, bytes]:
+        """The fields of the message, if nothing comes after it."""
+        return _whole(data, *self.locate_prefix(message, data))
+
+    def decode_check_prefix(self, message: str, data: Buffer) -> tuple[bytes, bytes]:
+        """What `validate_prefix` returns, by the decoder. It may run out of memory: an OutOfMemory says nothing of the bytes."""
+        data = _plain(data)
+        outcome = self._outcome_of(self._named(message, "_decode_check_prefix"), data)
+        if outcome.status:
+            raise Rejected(outcome.status, None, outcome.detail)
+        return data[: outcome.taken], data[outcome.taken :]
+
+    def decode_check(self, message: str, data: Buffer) -> bytes:
+        """What `validate` returns, by the decoder."""
+        return _whole(data, *self.decode_check_prefix(message, data))
 
     def elements(self, element: str, content: Buffer) -> Iterator[bytes]:
         """The elements of a list, from the bytes after its length: named as in the headers, without `_next`."""
@@ -141,11 +163,16 @@ class Validators:
                 raise Rejected(outcome.status, at + outcome.at, outcome.detail)
             yield found.of(content)
 
+    def message_wire_format_prefix(self, data: Buffer) -> tuple[MlsWireFormat, bytes]:
+        """The wire format of the MLSMessage that the bytes begin with, and the rest. Other numbers have names in tls_codec_exports, as
+        MlsContentType."""
+        wire_format, data = ctypes.c_uint16(), _plain(data)
+        outcome = self._accepted(self._named("mls_message_wire_format"), data, wire_format)
+        return MlsWireFormat(wire_format.value), data[outcome.taken :]
+
     def message_wire_format(self, data: Buffer) -> MlsWireFormat:
-        """The wire format of the MLSMessage that the bytes begin with. Other numbers have names in tls_codec_exports, as MlsContentType."""
-        wire_format = ctypes.c_uint16()
-        self._accepted(self._named("mls_message_wire_format"), data, wire_format)
-        return MlsWireFormat(wire_format.value)
+        """The wire format of an MLSMessage, if nothing comes after it."""
+        return _whole(data, *self.message_wire_format_prefix(data))
 
     def framed_content_tbs(self, wire_format: int, content: Buffer, context: Buffer = b"") -> bytes:
         """What is signed of a message of MLS, by the encodings of its FramedContent and, if it is signed too, of its GroupContext."""

@@ -3,10 +3,10 @@
 import enum
 
 # The version, by CHANGELOG.md.
-VERSION = "0.2.0"
+VERSION = "0.3.0"
 
 # What archives of this version and these headers have beside them.
-MARK = "0.2.0 daa900fd9cbbd1a5"
+MARK = "0.3.0 4cc19b16228c3d92"
 
 # The names of the statuses, by their numbers.
 STATUSES = [
@@ -57,18 +57,18 @@ CALLS = [
     "tls13_certificate_verify_validate_prefix",
     "tls13_new_session_ticket_validate_prefix",
     "tls13_key_update_validate_prefix",
-    "tls13_tls_plaintext_decode_check",
-    "tls13_tls_ciphertext_decode_check",
-    "tls13_alert_decode_check",
-    "tls13_handshake_decode_check",
-    "tls13_client_hello_decode_check",
-    "tls13_server_hello_decode_check",
-    "tls13_encrypted_extensions_decode_check",
-    "tls13_certificate_request_decode_check",
-    "tls13_certificate_decode_check",
-    "tls13_certificate_verify_decode_check",
-    "tls13_new_session_ticket_decode_check",
-    "tls13_key_update_decode_check",
+    "tls13_tls_plaintext_decode_check_prefix",
+    "tls13_tls_ciphertext_decode_check_prefix",
+    "tls13_alert_decode_check_prefix",
+    "tls13_handshake_decode_check_prefix",
+    "tls13_client_hello_decode_check_prefix",
+    "tls13_server_hello_decode_check_prefix",
+    "tls13_encrypted_extensions_decode_check_prefix",
+    "tls13_certificate_request_decode_check_prefix",
+    "tls13_certificate_decode_check_prefix",
+    "tls13_certificate_verify_decode_check_prefix",
+    "tls13_new_session_ticket_decode_check_prefix",
+    "tls13_key_update_decode_check_prefix",
     "mls_extension_next",
     "mls_optional_node_next",
     "mls_proposal_or_ref_next",
@@ -101,20 +101,20 @@ CALLS = [
     "mls_leaf_node_validate_prefix",
     "mls_ratchet_tree_validate_prefix",
     "mls_message_wire_format",
-    "mls_message_decode_check",
-    "mls_public_message_decode_check",
-    "mls_private_message_decode_check",
-    "mls_framed_content_decode_check",
-    "mls_sender_data_decode_check",
-    "mls_welcome_decode_check",
-    "mls_group_secrets_decode_check",
-    "mls_group_info_decode_check",
-    "mls_group_context_decode_check",
-    "mls_commit_decode_check",
-    "mls_proposal_decode_check",
-    "mls_key_package_decode_check",
-    "mls_leaf_node_decode_check",
-    "mls_ratchet_tree_decode_check",
+    "mls_message_decode_check_prefix",
+    "mls_public_message_decode_check_prefix",
+    "mls_private_message_decode_check_prefix",
+    "mls_framed_content_decode_check_prefix",
+    "mls_sender_data_decode_check_prefix",
+    "mls_welcome_decode_check_prefix",
+    "mls_group_secrets_decode_check_prefix",
+    "mls_group_info_decode_check_prefix",
+    "mls_group_context_decode_check_prefix",
+    "mls_commit_decode_check_prefix",
+    "mls_proposal_decode_check_prefix",
+    "mls_key_package_decode_check_prefix",
+    "mls_leaf_node_decode_check_prefix",
+    "mls_ratchet_tree_decode_check_prefix",
 ]
 
 # What `NAME_locate` fills, in this order, by NAME.

@@ -5,8 +5,8 @@ They are built over the libraries that `rt ci` left in crates/*/out/rlib. Where 
 newer, `rt lib` first proves and builds all those below an archive, which takes longer. Beside them is libtls_codec_heap.a, which decoders
 need: malloc and free by Rattle's names for them. And tls_codec.version has the version of the headers, so that a mix with those of another
 commit is noticed; tls_codec.built names the commit, the kit and the archives. With --shared the C compiler links all of them to
-libtls_codec.so, for Python. TARGET is x86_64-unknown-linux-gnu if none is given. For aarch64-unknown-linux-gnu the kit has no such heap,
-and there is no --shared.
+libtls_codec.so, for Python. What an earlier run left in the folder, libtls_codec*, is removed first. TARGET is x86_64-unknown-linux-gnu if
+none is given. For aarch64-unknown-linux-gnu the kit has no such heap, and there is no --shared.
 """
 from __future__ import annotations
 
@@ -17,10 +17,11 @@ import subprocess
 import sys
 import tempfile
 
+from lib.clone import commit
 from lib.exported import HEAP, archive_of
 from lib.exports_c import MARK, mark
 from lib.failed import Failed
-from lib.libraries import CRATES, TOP, Libraries
+from lib.libraries import CRATES, TOP, Libraries, run
 from lib.shared_object import SHARED, put_shared
 
 TARGET = "x86_64-unknown-linux-gnu"
@@ -44,20 +45,18 @@ def is_stale(libraries: Libraries, crate: str) -> bool:
 
 
 def is_left_by_ci(libraries: Libraries, crate: str) -> bool:
-    """Whether `rt ci` built all the libraries below a static one, from the files that are there now.
-
-    A library that another command built has a stamp, and fits no others.
-    """
+    """Whether `rt ci` built all the libraries below a static one, from the files that are there now."""
     below = libraries.below(crate)
-    stamps = [(libraries.rlib(it).parent / "stamp").is_file() for it in below]
-    return not libraries.lacking(crate) and not any(stamps) and not any(is_stale(libraries, it) for it in below)
+    if libraries.lacking(crate) or any(map(libraries.is_stamped, below)):
+        return False
+    return not any(is_stale(libraries, it) for it in below)
 
 
-def ran(words: list[str], crate: str) -> None:
-    how = {"stdin": subprocess.DEVNULL, "stdout": subprocess.PIPE, "stderr": subprocess.STDOUT}
-    output = subprocess.run(words, cwd=CRATES / crate, text=True, errors="replace", **how)
-    if output.returncode:
-        raise Failed(f"{crate}: {output.stdout[-3000:]}")
+def need(crate: str, ended: tuple[int, str]) -> None:
+    """What a command over a crate ended with, which must be 0."""
+    status, printed = ended
+    if status:
+        raise Failed(f"{crate}: {printed[-3000:]}")
 
 
 def toolchain(kit: pathlib.Path, folder: pathlib.Path) -> pathlib.Path:
@@ -78,7 +77,7 @@ def build_below(libraries: Libraries, crate: str) -> None:
     """Proves and builds all the libraries below a static one, by `rt lib`, which keeps what it built, and builds anew what others did."""
     for it in libraries.uses[crate]:
         if it in libraries.uses:
-            ran(["rt", "lib"], it)
+            need(it, run(["rt", "lib"], CRATES / it))
     if libraries.lacking(crate):
         raise Failed(f"{crate}: rt lib left no {libraries.lacking(crate)}")
 
@@ -89,13 +88,25 @@ def build(libraries: Libraries, crate: str, folder: pathlib.Path, target: str = 
         build_below(libraries, crate)
     with tempfile.TemporaryDirectory(prefix="toolchain-") as made:
         archive = pathlib.Path(made) / f"lib{crate}.a"
-        compiled = ["--toolchain", str(toolchain(libraries.kit, pathlib.Path(made))), "-o", str(archive)]
-        ran([f"{libraries.kit}/bin/rattle", "build", *libraries.words(crate), "--target", target, *compiled], crate)
+        words = ["--target", target, "--toolchain", str(toolchain(libraries.kit, pathlib.Path(made))), "-o", str(archive)]
+        need(crate, libraries.rattle("build", crate, words, CRATES / crate))
         shutil.copyfile(archive, folder / archive_of(crate))
 
 
-def put_heap(libraries: Libraries, folder: pathlib.Path) -> None:
-    shutil.copyfile(libraries.kit / "c" / "liblibc_c.a", folder / HEAP)
+def clear(folder: pathlib.Path) -> None:
+    """Removes what an earlier run left in the folder: no archive and no shared object of it comes beside the mark of another commit."""
+    for it in {*folder.glob("libtls_codec*"), *(folder / name for name in (HEAP, MARK, BUILT))}:
+        it.unlink(missing_ok=True)
+
+
+def put_archives(libraries: Libraries, folder: pathlib.Path, target: str = TARGET) -> None:
+    """Proves the static libraries, and puts their archives into the folder, with the heap that they need, in place of an earlier run's."""
+    clear(folder)
+    if target == TARGET:
+        shutil.copyfile(libraries.kit / "c" / "liblibc_c.a", folder / HEAP)
+    for crate in libraries.static:
+        build(libraries, crate, folder, target)
+        print(folder / archive_of(crate), flush=True)
 
 
 def put_mark(folder: pathlib.Path) -> None:
@@ -104,41 +115,35 @@ def put_mark(folder: pathlib.Path) -> None:
     (folder / MARK).write_text(f"{mark()}\n", encoding="utf-8")
 
 
-def printed(*words: str) -> str:
-    """What a command prints; `unknown` if it fails, as git does where it isn't there or this is no clone."""
-    try:
-        return subprocess.run(words, cwd=TOP, stdin=subprocess.DEVNULL, capture_output=True, text=True, check=True).stdout.strip()
-    except (OSError, subprocess.CalledProcessError):
-        return "unknown"
-
-
 def built_from(folder: pathlib.Path) -> str:
-    """The commit, whether the files are those of it, the kit, and the SHA-256 of each archive, as `sha256sum -c` reads it."""
-    state = "with changes" if printed("git", "status", "--porcelain") else "clean"
-    lines = [f"# commit {printed('git', 'rev-parse', 'HEAD')}, {state}", f"# {printed('rt', 'version')}"]
+    """The commit, with `and changes` if there are some, the kit, and the SHA-256 of each archive, as `sha256sum -c` reads it."""
+    kit = subprocess.run(["rt", "version"], stdin=subprocess.DEVNULL, capture_output=True, text=True, check=False).stdout.strip()
+    lines = [f"# commit: {commit()}", f"# {kit or 'unknown'}"]
     archives = sorted([*folder.glob("libtls_codec*.a"), *folder.glob(SHARED)])
     return "\n".join([*lines, *(f"{hashlib.sha256(it.read_bytes()).hexdigest()}  {it.name}" for it in archives)]) + "\n"
+
+
+def lacking(target: str, is_shared: bool) -> str:
+    """Why nothing can be built, which is said before an earlier run's archives are removed; "" if it can be."""
+    if is_shared and target != TARGET:
+        return f"--shared links for {TARGET} alone"
+    tools = ["rt", "cc"] if is_shared else ["rt"]
+    return "\n".join(f"{it} isn't on the path" for it in tools if not shutil.which(it))
 
 
 def main() -> int:
     words = [it for it in sys.argv[1:] if it != "--shared"]
     folder = pathlib.Path(words[0]) if words else TOP / "c" / "out"
     target, is_shared = words[1] if words[1:] else TARGET, "--shared" in sys.argv[1:]
-    if is_shared and target != TARGET:
-        print(f"--shared links for {TARGET} alone")
+    why = lacking(target, is_shared)
+    if why:
+        print(why)
         return 1
-    folder.mkdir(parents=True, exist_ok=True)
-    libraries = Libraries()
-    for it in (MARK, BUILT):
-        (folder / it).unlink(missing_ok=True)
     try:
         # (cached: what can't be read fails here, before the proofs)
         mark()
-        if target == TARGET:
-            put_heap(libraries, folder)
-        for crate in libraries.static:
-            build(libraries, crate, folder, target)
-            print(folder / archive_of(crate), flush=True)
+        folder.mkdir(parents=True, exist_ok=True)
+        put_archives(Libraries(), folder, target)
         if is_shared:
             print(put_shared(folder, folder), flush=True)
         put_mark(folder)

@@ -268,12 +268,12 @@ TESTS += [boundary, stream, hello, sender, readmes, rust, python, vectors, mix]
 
 
 def build(folder: pathlib.Path) -> None:
-    """Builds the archives, as archives.py does."""
-    libraries = Libraries()
+    """Builds the archives, as archives.py does, where an earlier run left a shared object, which Python would load with their mark."""
     folder.mkdir()
-    archives.put_heap(libraries, folder)
-    for crate in libraries.static:
-        archives.build(libraries, crate, folder)
+    (folder / SHARED).touch()
+    archives.put_archives(Libraries(), folder)
+    if (folder / SHARED).exists():
+        raise Failed(f"{SHARED} of an earlier run is still there")
 
 
 def all_tests() -> dict[str, Callable[[Room], None]]:

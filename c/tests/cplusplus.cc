@@ -12,10 +12,10 @@
 int main() {
   const uint8_t alert[] = {1, 0, 0xee};
   const bool is_alert =
-      tls13_alert_validate_prefix(alert, sizeof alert).taken == 2 && tls13_alert_decode_check(alert, sizeof alert).taken == 2;
+      tls13_alert_validate_prefix(alert, sizeof alert).taken == 2 && tls13_alert_decode_check_prefix(alert, sizeof alert).taken == 2;
   const uint8_t suite[] = {0, 1};
   const tls_codec_outcome outcome = mls_welcome_validate_prefix(suite, sizeof suite);
-  const tls_codec_outcome decoded = mls_welcome_decode_check(suite, sizeof suite);
+  const tls_codec_outcome decoded = mls_welcome_decode_check_prefix(suite, sizeof suite);
   const tls_codec_outcome none = mls_message_validate(nullptr, 0);
   const uint8_t varint[] = {0x3f, 0xee};
   const tls_codec_outcome one = tls_codec_varint_validate_prefix(varint, sizeof varint);
@@ -27,11 +27,14 @@ int main() {
   const bool is_whole = tls13_alert_validate(alert, 2).taken == 2 &&
                         tls13_alert_validate(alert, sizeof alert).status == TLS_CODEC_TRAILING_DATA && tls_codec_u16(opaque) == 2 &&
                         tls_codec_varint_value(varint) == 63;
+  const tls_codec_outcome rest = tls13_alert_decode_check(alert, sizeof alert);
+  const bool is_decoded = tls13_alert_decode_check(alert, 2).taken == 2 && rest.status == TLS_CODEC_TRAILING_DATA && rest.at == 2 &&
+                          rest.taken == 0;
   tls_codec_span left = {0, 0}, element = {9, 9};
   const bool is_null_empty = mls_message_decode_check(nullptr, 0).status == TLS_CODEC_END_OF_STREAM &&
                              tls_codec_opaque_v_locate(nullptr, 0, &content).status == TLS_CODEC_END_OF_STREAM &&
                              mls_extension_next(nullptr, 0, &left, &element).status == TLS_CODEC_END_OF_STREAM && element.offset == 9;
-  const bool is_well = is_alert && is_whole && is_null_empty && is_content && is_kept &&
+  const bool is_well = is_alert && is_whole && is_decoded && is_null_empty && is_content && is_kept &&
                        outcome.status == TLS_CODEC_END_OF_STREAM && outcome.at == 2 && one.taken == 1 &&
                        decoded.status == TLS_CODEC_END_OF_STREAM && decoded.at == 0 &&
                        none.status == TLS_CODEC_END_OF_STREAM &&

@@ -39,7 +39,7 @@ int main(int count, char **words) {
     const struct message *it = digits ? message_of(name) : NULL;
     if (!it) return 2;
     bytes = bytes_of(digits, &length);
-    printf("%s %zu %zu\n", name, touched(it->validate_prefix) - none, touched(it->decode_check) - none);
+    printf("%s %zu %zu\n", name, touched(it->validate_prefix) - none, touched(it->decode_check_prefix) - none);
     free(bytes);
   }
   fclose(file);

@@ -35,7 +35,7 @@ void __wrap_free(void *block) {
 /* The status, with one request refused, or none if it is 0; 99 if a block is left. */
 static uint32_t with_refused(const struct message *it, const uint8_t *bytes, size_t length, int number) {
   requests = 0, blocks = 0, refused = number, is_watched = 1;
-  tls_codec_outcome outcome = it->decode_check(bytes, length);
+  tls_codec_outcome outcome = it->decode_check_prefix(bytes, length);
   is_watched = 0;
   return blocks ? 99 : outcome.status;
 }

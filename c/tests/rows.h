@@ -14,11 +14,11 @@ typedef tls_codec_outcome message_call(const uint8_t *bytes, size_t length);
 
 struct message {
   const char *name;
-  message_call *validate_prefix, *validate, *decode_check;
+  message_call *validate_prefix, *validate, *decode_check_prefix, *decode_check;
 };
 
 static const struct message messages[] = {
-#define MESSAGE(name) {#name, name##_validate_prefix, name##_validate, name##_decode_check},
+#define MESSAGE(name) {#name, name##_validate_prefix, name##_validate, name##_decode_check_prefix, name##_decode_check},
 #include "exports.inc"
 #undef MESSAGE
 };

@@ -15,9 +15,9 @@ def found(validators: Validators, name: str, data: bytes) -> tuple[list[bytes] |
     parts: list[bytes] = []
     try:
         if name == "mls_message_wire_format":
-            return validators.message_wire_format(data), (0, 0, 0)
+            return validators.message_wire_format_prefix(data)[0], (0, 0, 0)
         if name.endswith("_locate"):
-            return list(validators.locate(name.removesuffix("_locate"), data, whole=False).values()), (0, 0, 0)
+            return list(validators.locate_prefix(name.removesuffix("_locate"), data)[0].values()), (0, 0, 0)
         if name.endswith("_validate_prefix"):
             return [validators.validate_prefix(name.removesuffix("_validate_prefix"), data)[0]], (0, 0, 0)
         for element in validators.elements(name.removesuffix("_next"), data):
@@ -55,7 +55,10 @@ def are_numbers_named(validators: Validators) -> bool:
 
 def main() -> int:
     validators = Validators(sys.argv[1])
-    failed = [are_numbers_named(validators)].count(False)
+    failed = 0
+    if not are_numbers_named(validators):
+        failed += 1
+        print("are_numbers_named: not so")
     with open(sys.argv[2], encoding="utf-8") as file:
         rows = [line.rstrip("\n").split("\t") for line in file]
     for name, digits, expected, filled in rows:

@@ -21,7 +21,7 @@
 //! ```
 //!
 //! `validate_NAME` and `decode_check_NAME` need all of the bytes to be one message. Each other function accepts bytes that come after it:
-//! `validate_NAME_prefix`, `locate_NAME` and `message_wire_format` return them.
+//! `validate_NAME_prefix`, `decode_check_NAME_prefix`, `locate_NAME` and `message_wire_format` return them.
 #![no_std]
 #![deny(missing_docs, missing_debug_implementations)]
 

@@ -129,6 +129,13 @@ fn each_row_is_decoded() {
     assert!(MESSAGES.iter().all(|it| rows.iter().any(|row| row.message.name == it.name && row.decoded.is_ok())));
 }
 
+#[test]
+fn nothing_may_be_left() {
+    assert_eq!(tls13_check::decode_check_alert(&[1, 0]), Ok(()));
+    assert_eq!(tls13_check::decode_check_alert(&[1, 0, 7]), Err(Error::TrailingData));
+    assert_eq!(tls13_check::decode_check_alert_prefix(&[1, 0, 7]), Ok((&[1, 0][..], &[7][..])));
+}
+
 /// That both accept the same bytes and take as many of them follows from their contracts. That they name one error is tested alone.
 #[test]
 fn validators_and_decoders_agree() {

@@ -22,7 +22,7 @@ def boundary(room: Room) -> None:
     if room.run([program], message) != message:
         raise Failed("a message isn't let through as it is")
     if room.run([program], message + b"\0", status=1) != b"TrailingData at byte 94 of 95\n":
-        raise Failed("a byte behind a message has another outcome")
+        raise Failed("a byte after a message has another outcome")
     if room.run([program], message[:3], status=1) != b"EndOfStream at byte 2 of 3\n":
         raise Failed("a message that is cut short has another outcome")
     if room.run([program], message[:3] + b"\6" + message[4:], status=1) != b"UnknownValue (6) at byte 2 of 94\n":

@@ -7,6 +7,7 @@ from dataclasses import dataclass
 
 from lib.failed import Failed
 from lib.libraries import TOP, Libraries
+from lib.presentation import snake
 
 WRITTEN = "Written by tools/check_exports.py"
 # The most columns of a comment that is written.
@@ -26,10 +27,17 @@ C = {"u16": "uint16_t", "u32": "uint32_t", "u64": "uint64_t", "usize": "size_t"}
 # The libraries whose structs cross, and what their names begin with in C.
 STRUCTS = {"tls_codec_outcome": "tls_codec", "mls_fields": "mls", "tls13_fields": "tls13"}
 # How the names of calls end, by what they do, in the order of a header.
-CALLS = ("_validate_prefix", "_locate", "_next", "_wire_format", "_encode", "_decode_check")
+CALLS = ("_validate_prefix", "_locate", "_next", "_wire_format", "_encode", "_decode_check_prefix")
 # What a call does, in C, by the end of its name: what is put after its text in the source.
-ASKED = {"_validate_prefix": ": whether the bytes begin with one.", "_decode_check": ": whether the bytes begin with one, by the decoder."}
-WHOLE = ": whether the bytes are one, with nothing after it."
+ASKED = {
+    "_validate_prefix": ": whether the bytes begin with one.",
+    "_decode_check_prefix": ": whether the bytes begin with one, by the decoder.",
+}
+# The same of the header's call that needs all of the bytes, by the end of the name of the export that it calls.
+WHOLE = {
+    "_validate_prefix": ": whether the bytes are one, with nothing after it.",
+    "_decode_check_prefix": ": whether the bytes are one, with nothing after it, by the decoder.",
+}
 FOUND = re.compile(r"(its fields are|its content is)\.")
 # What C says of the buffers, beside the text in the source.
 POINTERS = (
@@ -44,8 +52,10 @@ INSIDE = {
     "`optional<UpdatePath> path;`": ": a byte 0, or a byte 1 and the `UpdatePath`",
     "`optional<PathSecret> path_secret;`": ": a byte 0, or a byte 1 and the `PathSecret`",
     "What its case has, with its length: a `ClientHello`, a `ServerHello`, ..": "; the length has three bytes",
+    "Where its first byte is.": " It counts from the `bytes` of the call that filled it.",
     "The offset of the rejected field's first byte; 0 if the bytes are accepted.": " It counts from `bytes`; of `NAME_next` from the first"
-    " byte of `*left` before the call, and of `NAME_encode` from `out`. It is 0 if `out` is too small, and of each `NAME_decode_check`.",
+    " byte of `*left` before the call, and of `NAME_encode` from `out`. It is 0 if `out` is too small, and of each"
+    " `NAME_decode_check_prefix`.",
 }
 # Fields that callers name as the RFC does, where Rattle has that word itself.
 AS_IN_THE_RFC = {"kind": "type"}
@@ -58,8 +68,9 @@ MEANINGS = {
     "InvalidVectorLength": "A length or a variable-length integer has more bytes than it needs, or is outside the bounds of its field.",
     "InvalidWriteLength": "The buffer to write into is too small.",
     "InvalidInput": "No call returns it.",
-    "DecodingError": "One of three, which aren't told apart: the content after a variable-length length isn't all there; an element passes"
-    " the end of its list; the byte before an optional field is neither 0 nor 1.",
+    "DecodingError": "One of three, which aren't told apart: the bytes of an `opaque<V>` aren't all there, while a list that isn't all"
+    " there has the error of the element that is cut off; an element passes the end of its list; the byte before an optional field is"
+    " neither 0 nor 1.",
     "EndOfStream": "The bytes, or the body of a Handshake, end before a field does.",
     "TrailingData": "Bytes are left, after the message or, in a Handshake, after its body.",
     "UnknownValue": "No case has this number, or a constant has another value.",
@@ -100,8 +111,8 @@ class Export:
         return self.text.removesuffix(".") + asked if asked else FOUND.sub(r"\1, if the bytes begin with one.", self.text)
 
     def whole_in_c(self) -> list[str]:
-        """A validator's call that needs all of the bytes to be one message."""
-        name = f"{self.subject}_validate"
+        """The call of a validator or a decoder that needs all of the bytes to be one message."""
+        name = self.name.removesuffix("_prefix")
         lines = [f"static inline tls_codec_outcome {name}(const uint8_t *bytes, size_t length) {{"]
         return [*lines, f"  return tls_codec_whole({self.name}(bytes, length), length);", "}"]
 
@@ -187,7 +198,7 @@ def type_in_c(kind: str) -> str:
     """`KeyPackageFields` of MLS as `mls_key_package_fields`."""
     if kind in C:
         return C[kind]
-    name = re.sub(r"(?<=[a-z])(?=[A-Z])|(?<=[A-Z])(?=[A-Z][a-z])", "_", kind).lower()
+    name = snake(kind)
     prefix = STRUCTS[struct_of(kind).crate]
     return name if name.startswith(prefix) else f"{prefix}_{name}"
 

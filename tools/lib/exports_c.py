@@ -76,7 +76,10 @@ def outcome_header(of_headers: str) -> str:
     """outcome.h, which names the headers that it is of."""
     names = [("Accepted", False, 0), *numbers()]
     body = [*CONTRACT, "#include <stddef.h>", "#include <stdint.h>", "", "/* The version of this header, by CHANGELOG.md. */"]
-    body += [f'#define TLS_CODEC_VERSION "{version()}"', "", *comment(f"The line that `{MARK}` beside archives of just these headers has.")]
+    major, lesser, patch = map(int, version().split("."))
+    body += [f'#define TLS_CODEC_VERSION "{version()}"', "", "/* 10000 * major + 100 * minor + patch; 0.2.0 had none. */"]
+    body += [f"#define TLS_CODEC_VERSION_NUMBER {10000 * major + 100 * lesser + patch}", ""]
+    body += [*comment(f"The line that `{MARK}` beside archives of just these headers has.")]
     body += [f'#define TLS_CODEC_HEADERS "{of_headers}"', ""]
     body += ["/* A call's status. The numbers don't change. */", "enum tls_codec_status {"]
     for name, _, number in names:
@@ -93,13 +96,13 @@ def outcome_header(of_headers: str) -> str:
 
 
 def declared(it: Export) -> list[str]:
-    """A call in C: the struct that it fills, its prototype, and a validator's call that takes all of the bytes."""
+    """A call in C: the struct that it fills, its prototype, and the call that needs all of the bytes."""
     lines: list[str] = []
     if it.call == "_locate" and struct_of(taken_by(it)).crate != "tls_codec_outcome":
         lines = ["", *struct_in_c(taken_by(it))]
     lines += ["", *comment(it.in_c()), it.prototype()]
-    if it.call == "_validate_prefix":
-        lines += ["", *comment(it.text.removesuffix(".") + WHOLE), *it.whole_in_c()]
+    if it.call in WHOLE:
+        lines += ["", *comment(it.text.removesuffix(".") + WHOLE[it.call]), *it.whole_in_c()]
     return lines
 
 
@@ -132,7 +135,7 @@ def table() -> str:
     """c/tests/exports.inc: the lines that lead tests in C to a message's calls."""
     found = [it for crate in libraries() for it in exports_of(crate)]
     by_call = {call: [it for it in found if it.call == call] for call in CALLS}
-    decoded = {it.subject for it in by_call["_decode_check"]}
+    decoded = {it.subject for it in by_call["_decode_check_prefix"]}
     lines = ["#ifdef MESSAGE", *[f"MESSAGE({it.subject})" for it in by_call["_validate_prefix"] if it.subject in decoded]]
     lines += ["#endif", "#ifdef LOCATED", *[f"LOCATED({it.subject}, {type_in_c(taken_by(it))})" for it in by_call["_locate"]]]
     lines += ["#endif", "#ifdef LISTED", *[f"LISTED({it.subject})" for it in by_call["_next"]]]

@@ -152,7 +152,7 @@ def asked_in_rust(export: Export, name: str, error: str, ends: tuple[str, str]) 
 def decoders_in_rust(crate: str) -> list[str]:
     """The functions of a static library of decoders, as those of a module that a feature adds. A decoder says no place."""
     name, exports = crate.removesuffix("_c"), exports_of(crate)
-    text = about(crate).removesuffix(": `at` is 0.")
+    text = about(crate).removesuffix(": `at` of `NAME_decode_check_prefix` is 0.")
     if text == about(crate):
         raise Failed(f"{crate}: its text ends in other words")
     body = ["", f"/// {text}.", '#[cfg(feature = "check")]', f"pub mod {name} {{", "    use crate::{Error, split, whole};", ""]
@@ -169,7 +169,7 @@ def module_in_rust(crate: str) -> list[str]:
     by_call = {call: [it for it in exports if it.call == call] for call in CALLS}
     located, lists, encoders = by_call["_locate"], by_call["_next"], by_call["_encode"]
     taken = dict.fromkeys(taken_by(it) for it in located if taken_by(it) != "Span")
-    if by_call["_decode_check"]:
+    if by_call["_decode_check_prefix"]:
         raise Failed(f"{crate}: an export of no kind that Rust has a function for")
     used = ["Rejected", "split", *(["split_as"] if located else []), "whole"]
     if len(taken) < len(located) and not taken:

@@ -12,9 +12,9 @@ CONTRACT = """\
    - If the status isn't 0, nothing is filled. The exception is `NAME_encode`, which writes its buffer
      even if it then rejects what it wrote; a buffer that is too small is unchanged.
    - No call keeps a pointer, leaves anything to free, or has state: calls may run in any thread.
-     Only `NAME_decode_check` allocates.
-   - Each call but `NAME_validate` accepts bytes that come after the message, and `taken` says where
-     they begin. `tls_codec_whole` rejects them. */
+     Only `NAME_decode_check` and `NAME_decode_check_prefix` allocate.
+   - `NAME_validate` and `NAME_decode_check` need all of the bytes. Each other call accepts bytes that
+     come after the message, and `taken` says where they begin. `tls_codec_whole` rejects them. */
 """.split("\n")
 
 # Of an outcome.

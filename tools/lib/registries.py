@@ -5,10 +5,9 @@ import re
 from typing import Any
 
 from lib.failed import Failed
-from lib.libraries import CRATES
-from lib.presentation import Parser, name_of
+from lib.libraries import DATA, texts_of
+from lib.presentation import Parser, name_of, snake
 
-DATA = CRATES / "tlsgen" / "data"
 # The enums of each library, and the types of their numbers.
 ENUMS = {
     "mls": {
@@ -46,8 +45,6 @@ LISTED = {
         "TLS_AES_128_CCM_8_SHA256": 0x1305,
     },
 }
-# The texts that have a library's messages, if they have other names than it.
-TEXTS = {"mls": ["mls", "mls_tree", "mls_group"]}
 UNUSED = re.compile(r"reserved|RESERVED|invalid|.*_RESERVED")
 
 
@@ -71,7 +68,7 @@ def numbers(text: str, enum: str) -> dict[str, int]:
 
 def named_in_the_rfc(library: str, enum: str) -> dict[str, int]:
     """The same of a library's enum."""
-    texts = [found for text in TEXTS.get(library, [library]) if (found := numbers(text, enum))]
+    texts = [found for text in texts_of(library) if (found := numbers(text, enum))]
     texts += [LISTED[library, enum]] if (library, enum) in LISTED else []
     if len(texts) != 1:
         raise Failed(f"{len(texts)} texts of {library} have numbers of {enum}")
@@ -86,11 +83,6 @@ def name_for_callers(library: str, name: str) -> str:
 def named(library: str, enum: str) -> dict[str, int]:
     """The same by the names that callers have."""
     return {name_for_callers(library, it): number for it, number in named_in_the_rfc(library, enum).items()}
-
-
-def snake(enum: str) -> str:
-    """`WireFormat` as `wire_format`."""
-    return re.sub(r"(?<=[a-z])(?=[A-Z])", "_", enum).lower()
 
 
 def enums_in_c(library: str) -> list[str]:

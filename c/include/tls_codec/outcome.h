@@ -11,18 +11,21 @@
    - If the status isn't 0, nothing is filled. The exception is `NAME_encode`, which writes its buffer
      even if it then rejects what it wrote; a buffer that is too small is unchanged.
    - No call keeps a pointer, leaves anything to free, or has state: calls may run in any thread.
-     Only `NAME_decode_check` allocates.
-   - Each call but `NAME_validate` accepts bytes that come after the message, and `taken` says where
-     they begin. `tls_codec_whole` rejects them. */
+     Only `NAME_decode_check` and `NAME_decode_check_prefix` allocate.
+   - `NAME_validate` and `NAME_decode_check` need all of the bytes. Each other call accepts bytes that
+     come after the message, and `taken` says where they begin. `tls_codec_whole` rejects them. */
 
 #include <stddef.h>
 #include <stdint.h>
 
 /* The version of this header, by CHANGELOG.md. */
-#define TLS_CODEC_VERSION "0.2.0"
+#define TLS_CODEC_VERSION "0.3.0"
+
+/* 10000 * major + 100 * minor + patch; 0.2.0 had none. */
+#define TLS_CODEC_VERSION_NUMBER 300
 
 /* The line that `tls_codec.version` beside archives of just these headers has. */
-#define TLS_CODEC_HEADERS "0.2.0 daa900fd9cbbd1a5"
+#define TLS_CODEC_HEADERS "0.3.0 4cc19b16228c3d92"
 
 /* A call's status. The numbers don't change. */
 enum tls_codec_status {
@@ -37,9 +40,9 @@ enum tls_codec_status {
   TLS_CODEC_INVALID_WRITE_LENGTH = 3,
   /* No call returns it. */
   TLS_CODEC_INVALID_INPUT = 4,
-  /* One of three, which aren't told apart: the content after a variable-length length isn't all
-     there; an element passes the end of its list; the byte before an optional field is neither 0
-     nor 1. */
+  /* One of three, which aren't told apart: the bytes of an `opaque<V>` aren't all there, while a
+     list that isn't all there has the error of the element that is cut off; an element passes the
+     end of its list; the byte before an optional field is neither 0 nor 1. */
   TLS_CODEC_DECODING_ERROR = 5,
   /* The bytes, or the body of a Handshake, end before a field does. */
   TLS_CODEC_END_OF_STREAM = 6,
@@ -55,7 +58,7 @@ enum tls_codec_status {
 
 /* A place in some bytes. */
 typedef struct tls_codec_span {
-  /* Where its first byte is. */
+  /* Where its first byte is. It counts from the `bytes` of the call that filled it. */
   size_t offset;
   /* How many bytes it has. */
   size_t size;
@@ -69,7 +72,7 @@ typedef struct tls_codec_outcome {
   size_t taken;
   /* The offset of the rejected field's first byte; 0 if the bytes are accepted. It counts from
      `bytes`; of `NAME_next` from the first byte of `*left` before the call, and of `NAME_encode`
-     from `out`. It is 0 if `out` is too small, and of each `NAME_decode_check`. */
+     from `out`. It is 0 if `out` is too small, and of each `NAME_decode_check_prefix`. */
   size_t at;
   /* The unknown number, if the error is `TLS_CODEC_UNKNOWN_VALUE`; 0 for other errors. */
   uint64_t detail;

@@ -1,7 +1,7 @@
 //! Checks whether bytes begin with a message of MLS: its decoder makes the value and drops it.
 //!
-//! `OutOfMemory`: memory was refused, and nothing is said about the bytes. No position is reported:
-//! `at` is 0.
+//! `OutOfMemory`: memory was refused, and nothing is said about the bytes. The position of a
+//! rejected field isn't reported: `at` of `NAME_decode_check_prefix` is 0.
 #![tactic(auto)]
 
 ghost use Rattle.std.specs.Prelude.{◌≡◌};
@@ -30,7 +30,7 @@ use tls_codec_outcome::{Outcome, check};
 
 /// `MLSMessage` (RFC 9420, section 6).
 #[unsafe(no_mangle)]
-pub extern "C" fn mls_message_decode_check(alloc: Global, bytes: &[u8]) -> Outcome
+pub extern "C" fn mls_message_decode_check_prefix(alloc: Global, bytes: &[u8]) -> Outcome
     ensures status { DecidesInMemory mls_message_format bytes.now result.status }
     ensures taken { IsTaken mls_message_format bytes.now result.status result.taken }
     ensures detail { IsNamed ⟦<MLSMessage as DeserializeBytes>⟧.names bytes.now result.status
@@ -42,7 +42,7 @@ pub extern "C" fn mls_message_decode_check(alloc: Global, bytes: &[u8]) -> Outco
 
 /// `PublicMessage` (RFC 9420, section 6.2).
 #[unsafe(no_mangle)]
-pub extern "C" fn mls_public_message_decode_check(alloc: Global, bytes: &[u8]) -> Outcome
+pub extern "C" fn mls_public_message_decode_check_prefix(alloc: Global, bytes: &[u8]) -> Outcome
     ensures status { DecidesInMemory public_message_format bytes.now result.status }
     ensures taken { IsTaken public_message_format bytes.now result.status result.taken }
     ensures detail { IsNamed ⟦<PublicMessage as DeserializeBytes>⟧.names bytes.now result.status
@@ -54,7 +54,7 @@ pub extern "C" fn mls_public_message_decode_check(alloc: Global, bytes: &[u8]) -
 
 /// `PrivateMessage` (RFC 9420, section 6.3).
 #[unsafe(no_mangle)]
-pub extern "C" fn mls_private_message_decode_check(alloc: Global, bytes: &[u8]) -> Outcome
+pub extern "C" fn mls_private_message_decode_check_prefix(alloc: Global, bytes: &[u8]) -> Outcome
     ensures status { DecidesInMemory private_message_format bytes.now result.status }
     ensures taken { IsTaken private_message_format bytes.now result.status result.taken }
     ensures detail { IsNamed ⟦<PrivateMessage as DeserializeBytes>⟧.names bytes.now result.status
@@ -66,7 +66,7 @@ pub extern "C" fn mls_private_message_decode_check(alloc: Global, bytes: &[u8]) 
 
 /// `FramedContent` (RFC 9420, section 6).
 #[unsafe(no_mangle)]
-pub extern "C" fn mls_framed_content_decode_check(alloc: Global, bytes: &[u8]) -> Outcome
+pub extern "C" fn mls_framed_content_decode_check_prefix(alloc: Global, bytes: &[u8]) -> Outcome
     ensures status { DecidesInMemory framed_content_format bytes.now result.status }
     ensures taken { IsTaken framed_content_format bytes.now result.status result.taken }
     ensures detail { IsNamed ⟦<FramedContent as DeserializeBytes>⟧.names bytes.now result.status
@@ -78,7 +78,7 @@ pub extern "C" fn mls_framed_content_decode_check(alloc: Global, bytes: &[u8]) -
 
 /// `SenderData` (RFC 9420, section 6.3.2).
 #[unsafe(no_mangle)]
-pub extern "C" fn mls_sender_data_decode_check(alloc: Global, bytes: &[u8]) -> Outcome
+pub extern "C" fn mls_sender_data_decode_check_prefix(alloc: Global, bytes: &[u8]) -> Outcome
     ensures status { DecidesInMemory sender_data_format bytes.now result.status }
     ensures taken { IsTaken sender_data_format bytes.now result.status result.taken }
     ensures detail { IsNamed ⟦<SenderData as DeserializeBytes>⟧.names bytes.now result.status
@@ -90,7 +90,7 @@ pub extern "C" fn mls_sender_data_decode_check(alloc: Global, bytes: &[u8]) -> O
 
 /// `Welcome` (RFC 9420, section 12.4.3.1).
 #[unsafe(no_mangle)]
-pub extern "C" fn mls_welcome_decode_check(alloc: Global, bytes: &[u8]) -> Outcome
+pub extern "C" fn mls_welcome_decode_check_prefix(alloc: Global, bytes: &[u8]) -> Outcome
     ensures status { DecidesInMemory welcome_format bytes.now result.status }
     ensures taken { IsTaken welcome_format bytes.now result.status result.taken }
     ensures detail { IsNamed ⟦<Welcome as DeserializeBytes>⟧.names bytes.now result.status
@@ -102,7 +102,7 @@ pub extern "C" fn mls_welcome_decode_check(alloc: Global, bytes: &[u8]) -> Outco
 
 /// `GroupSecrets` (RFC 9420, section 12.4.3.1).
 #[unsafe(no_mangle)]
-pub extern "C" fn mls_group_secrets_decode_check(alloc: Global, bytes: &[u8]) -> Outcome
+pub extern "C" fn mls_group_secrets_decode_check_prefix(alloc: Global, bytes: &[u8]) -> Outcome
     ensures status { DecidesInMemory group_secrets_format bytes.now result.status }
     ensures taken { IsTaken group_secrets_format bytes.now result.status result.taken }
     ensures detail { IsNamed ⟦<GroupSecrets as DeserializeBytes>⟧.names bytes.now result.status
@@ -114,7 +114,7 @@ pub extern "C" fn mls_group_secrets_decode_check(alloc: Global, bytes: &[u8]) ->
 
 /// `GroupInfo` (RFC 9420, section 12.4.3).
 #[unsafe(no_mangle)]
-pub extern "C" fn mls_group_info_decode_check(alloc: Global, bytes: &[u8]) -> Outcome
+pub extern "C" fn mls_group_info_decode_check_prefix(alloc: Global, bytes: &[u8]) -> Outcome
     ensures status { DecidesInMemory group_info_format bytes.now result.status }
     ensures taken { IsTaken group_info_format bytes.now result.status result.taken }
     ensures detail { IsNamed ⟦<GroupInfo as DeserializeBytes>⟧.names bytes.now result.status
@@ -126,7 +126,7 @@ pub extern "C" fn mls_group_info_decode_check(alloc: Global, bytes: &[u8]) -> Ou
 
 /// `GroupContext` (RFC 9420, section 8.1).
 #[unsafe(no_mangle)]
-pub extern "C" fn mls_group_context_decode_check(alloc: Global, bytes: &[u8]) -> Outcome
+pub extern "C" fn mls_group_context_decode_check_prefix(alloc: Global, bytes: &[u8]) -> Outcome
     ensures status { DecidesInMemory group_context_format bytes.now result.status }
     ensures taken { IsTaken group_context_format bytes.now result.status result.taken }
     ensures detail { IsNamed ⟦<GroupContext as DeserializeBytes>⟧.names bytes.now result.status
@@ -138,7 +138,7 @@ pub extern "C" fn mls_group_context_decode_check(alloc: Global, bytes: &[u8]) ->
 
 /// `Commit` (RFC 9420, section 12.4).
 #[unsafe(no_mangle)]
-pub extern "C" fn mls_commit_decode_check(alloc: Global, bytes: &[u8]) -> Outcome
+pub extern "C" fn mls_commit_decode_check_prefix(alloc: Global, bytes: &[u8]) -> Outcome
     ensures status { DecidesInMemory commit_format bytes.now result.status }
     ensures taken { IsTaken commit_format bytes.now result.status result.taken }
     ensures detail { IsNamed ⟦<Commit as DeserializeBytes>⟧.names bytes.now result.status
@@ -150,7 +150,7 @@ pub extern "C" fn mls_commit_decode_check(alloc: Global, bytes: &[u8]) -> Outcom
 
 /// `Proposal` (RFC 9420, section 12.1).
 #[unsafe(no_mangle)]
-pub extern "C" fn mls_proposal_decode_check(alloc: Global, bytes: &[u8]) -> Outcome
+pub extern "C" fn mls_proposal_decode_check_prefix(alloc: Global, bytes: &[u8]) -> Outcome
     ensures status { DecidesInMemory proposal_format bytes.now result.status }
     ensures taken { IsTaken proposal_format bytes.now result.status result.taken }
     ensures detail { IsNamed ⟦<Proposal as DeserializeBytes>⟧.names bytes.now result.status
@@ -162,7 +162,7 @@ pub extern "C" fn mls_proposal_decode_check(alloc: Global, bytes: &[u8]) -> Outc
 
 /// `KeyPackage` (RFC 9420, section 10).
 #[unsafe(no_mangle)]
-pub extern "C" fn mls_key_package_decode_check(alloc: Global, bytes: &[u8]) -> Outcome
+pub extern "C" fn mls_key_package_decode_check_prefix(alloc: Global, bytes: &[u8]) -> Outcome
     ensures status { DecidesInMemory key_package_format bytes.now result.status }
     ensures taken { IsTaken key_package_format bytes.now result.status result.taken }
     ensures detail { IsNamed ⟦<KeyPackage as DeserializeBytes>⟧.names bytes.now result.status
@@ -174,7 +174,7 @@ pub extern "C" fn mls_key_package_decode_check(alloc: Global, bytes: &[u8]) -> O
 
 /// `LeafNode` (RFC 9420, section 7.2).
 #[unsafe(no_mangle)]
-pub extern "C" fn mls_leaf_node_decode_check(alloc: Global, bytes: &[u8]) -> Outcome
+pub extern "C" fn mls_leaf_node_decode_check_prefix(alloc: Global, bytes: &[u8]) -> Outcome
     ensures status { DecidesInMemory leaf_node_format bytes.now result.status }
     ensures taken { IsTaken leaf_node_format bytes.now result.status result.taken }
     ensures detail { IsNamed ⟦<LeafNode as DeserializeBytes>⟧.names bytes.now result.status
@@ -186,7 +186,7 @@ pub extern "C" fn mls_leaf_node_decode_check(alloc: Global, bytes: &[u8]) -> Out
 
 /// `RatchetTree` (RFC 9420, section 12.4.3.3).
 #[unsafe(no_mangle)]
-pub extern "C" fn mls_ratchet_tree_decode_check(alloc: Global, bytes: &[u8]) -> Outcome
+pub extern "C" fn mls_ratchet_tree_decode_check_prefix(alloc: Global, bytes: &[u8]) -> Outcome
     ensures status { DecidesInMemory ratchet_tree_format bytes.now result.status }
     ensures taken { IsTaken ratchet_tree_format bytes.now result.status result.taken }
     ensures detail { IsNamed ⟦<RatchetTree as DeserializeBytes>⟧.names bytes.now result.status

@@ -1,7 +1,7 @@
 //! Checks whether bytes begin with a message of TLS 1.3: its decoder makes the value and drops it.
 //!
-//! `OutOfMemory`: memory was refused, and nothing is said about the bytes. No position is reported:
-//! `at` is 0.
+//! `OutOfMemory`: memory was refused, and nothing is said about the bytes. The position of a
+//! rejected field isn't reported: `at` of `NAME_decode_check_prefix` is 0.
 #![tactic(auto)]
 
 ghost use Rattle.std.specs.Prelude.{◌≡◌};
@@ -29,7 +29,7 @@ use tls13::{
 
 /// `TLSPlaintext` (RFC 8446, section 5.1).
 #[unsafe(no_mangle)]
-pub extern "C" fn tls13_tls_plaintext_decode_check(alloc: Global, bytes: &[u8]) -> Outcome
+pub extern "C" fn tls13_tls_plaintext_decode_check_prefix(alloc: Global, bytes: &[u8]) -> Outcome
     ensures status { DecidesInMemory tls_plaintext_format bytes.now result.status }
     ensures taken { IsTaken tls_plaintext_format bytes.now result.status result.taken }
     ensures detail { IsNamed ⟦<TLSPlaintext as DeserializeBytes>⟧.names bytes.now result.status
@@ -41,7 +41,7 @@ pub extern "C" fn tls13_tls_plaintext_decode_check(alloc: Global, bytes: &[u8]) 
 
 /// `TLSCiphertext` (RFC 8446, section 5.2).
 #[unsafe(no_mangle)]
-pub extern "C" fn tls13_tls_ciphertext_decode_check(alloc: Global, bytes: &[u8]) -> Outcome
+pub extern "C" fn tls13_tls_ciphertext_decode_check_prefix(alloc: Global, bytes: &[u8]) -> Outcome
     ensures status { DecidesInMemory tls_ciphertext_format bytes.now result.status }
     ensures taken { IsTaken tls_ciphertext_format bytes.now result.status result.taken }
     ensures detail { IsNamed ⟦<TLSCiphertext as DeserializeBytes>⟧.names bytes.now result.status
@@ -53,7 +53,7 @@ pub extern "C" fn tls13_tls_ciphertext_decode_check(alloc: Global, bytes: &[u8])
 
 /// `Alert` (RFC 8446, section 6).
 #[unsafe(no_mangle)]
-pub extern "C" fn tls13_alert_decode_check(alloc: Global, bytes: &[u8]) -> Outcome
+pub extern "C" fn tls13_alert_decode_check_prefix(alloc: Global, bytes: &[u8]) -> Outcome
     ensures status { DecidesInMemory alert_format bytes.now result.status }
     ensures taken { IsTaken alert_format bytes.now result.status result.taken }
     ensures detail { IsNamed ⟦<Alert as DeserializeBytes>⟧.names bytes.now result.status
@@ -65,7 +65,7 @@ pub extern "C" fn tls13_alert_decode_check(alloc: Global, bytes: &[u8]) -> Outco
 
 /// `Handshake` (RFC 8446, section 4).
 #[unsafe(no_mangle)]
-pub extern "C" fn tls13_handshake_decode_check(alloc: Global, bytes: &[u8]) -> Outcome
+pub extern "C" fn tls13_handshake_decode_check_prefix(alloc: Global, bytes: &[u8]) -> Outcome
     ensures status { DecidesInMemory handshake_format bytes.now result.status }
     ensures taken { IsTaken handshake_format bytes.now result.status result.taken }
     ensures detail { IsNamed ⟦<Handshake as DeserializeBytes>⟧.names bytes.now result.status
@@ -77,7 +77,7 @@ pub extern "C" fn tls13_handshake_decode_check(alloc: Global, bytes: &[u8]) -> O
 
 /// `ClientHello` (RFC 8446, section 4.1.2).
 #[unsafe(no_mangle)]
-pub extern "C" fn tls13_client_hello_decode_check(alloc: Global, bytes: &[u8]) -> Outcome
+pub extern "C" fn tls13_client_hello_decode_check_prefix(alloc: Global, bytes: &[u8]) -> Outcome
     ensures status { DecidesInMemory client_hello_format bytes.now result.status }
     ensures taken { IsTaken client_hello_format bytes.now result.status result.taken }
     ensures detail { IsNamed ⟦<ClientHello as DeserializeBytes>⟧.names bytes.now result.status
@@ -89,7 +89,7 @@ pub extern "C" fn tls13_client_hello_decode_check(alloc: Global, bytes: &[u8]) -
 
 /// `ServerHello` (RFC 8446, section 4.1.3).
 #[unsafe(no_mangle)]
-pub extern "C" fn tls13_server_hello_decode_check(alloc: Global, bytes: &[u8]) -> Outcome
+pub extern "C" fn tls13_server_hello_decode_check_prefix(alloc: Global, bytes: &[u8]) -> Outcome
     ensures status { DecidesInMemory server_hello_format bytes.now result.status }
     ensures taken { IsTaken server_hello_format bytes.now result.status result.taken }
     ensures detail { IsNamed ⟦<ServerHello as DeserializeBytes>⟧.names bytes.now result.status
@@ -101,7 +101,10 @@ pub extern "C" fn tls13_server_hello_decode_check(alloc: Global, bytes: &[u8]) -
 
 /// `EncryptedExtensions` (RFC 8446, section 4.3.1).
 #[unsafe(no_mangle)]
-pub extern "C" fn tls13_encrypted_extensions_decode_check(alloc: Global, bytes: &[u8]) -> Outcome
+pub extern "C" fn tls13_encrypted_extensions_decode_check_prefix(
+    alloc: Global,
+    bytes: &[u8],
+) -> Outcome
     ensures status { DecidesInMemory encrypted_extensions_format bytes.now result.status }
     ensures taken { IsTaken encrypted_extensions_format bytes.now result.status result.taken }
     ensures detail { IsNamed ⟦<EncryptedExtensions as DeserializeBytes>⟧.names bytes.now
@@ -114,7 +117,10 @@ pub extern "C" fn tls13_encrypted_extensions_decode_check(alloc: Global, bytes: 
 
 /// `CertificateRequest` (RFC 8446, section 4.3.2).
 #[unsafe(no_mangle)]
-pub extern "C" fn tls13_certificate_request_decode_check(alloc: Global, bytes: &[u8]) -> Outcome
+pub extern "C" fn tls13_certificate_request_decode_check_prefix(
+    alloc: Global,
+    bytes: &[u8],
+) -> Outcome
     ensures status { DecidesInMemory certificate_request_format bytes.now result.status }
     ensures taken { IsTaken certificate_request_format bytes.now result.status result.taken }
     ensures detail { IsNamed ⟦<CertificateRequest as DeserializeBytes>⟧.names bytes.now
@@ -127,7 +133,7 @@ pub extern "C" fn tls13_certificate_request_decode_check(alloc: Global, bytes: &
 
 /// `Certificate` (RFC 8446, section 4.4.2).
 #[unsafe(no_mangle)]
-pub extern "C" fn tls13_certificate_decode_check(alloc: Global, bytes: &[u8]) -> Outcome
+pub extern "C" fn tls13_certificate_decode_check_prefix(alloc: Global, bytes: &[u8]) -> Outcome
     ensures status { DecidesInMemory certificate_format bytes.now result.status }
     ensures taken { IsTaken certificate_format bytes.now result.status result.taken }
     ensures detail { IsNamed ⟦<Certificate as DeserializeBytes>⟧.names bytes.now result.status
@@ -139,7 +145,10 @@ pub extern "C" fn tls13_certificate_decode_check(alloc: Global, bytes: &[u8]) ->
 
 /// `CertificateVerify` (RFC 8446, section 4.4.3).
 #[unsafe(no_mangle)]
-pub extern "C" fn tls13_certificate_verify_decode_check(alloc: Global, bytes: &[u8]) -> Outcome
+pub extern "C" fn tls13_certificate_verify_decode_check_prefix(
+    alloc: Global,
+    bytes: &[u8],
+) -> Outcome
     ensures status { DecidesInMemory certificate_verify_format bytes.now result.status }
     ensures taken { IsTaken certificate_verify_format bytes.now result.status result.taken }
     ensures detail { IsNamed ⟦<CertificateVerify as DeserializeBytes>⟧.names bytes.now result.status
@@ -151,7 +160,10 @@ pub extern "C" fn tls13_certificate_verify_decode_check(alloc: Global, bytes: &[
 
 /// `NewSessionTicket` (RFC 8446, section 4.6.1).
 #[unsafe(no_mangle)]
-pub extern "C" fn tls13_new_session_ticket_decode_check(alloc: Global, bytes: &[u8]) -> Outcome
+pub extern "C" fn tls13_new_session_ticket_decode_check_prefix(
+    alloc: Global,
+    bytes: &[u8],
+) -> Outcome
     ensures status { DecidesInMemory new_session_ticket_format bytes.now result.status }
     ensures taken { IsTaken new_session_ticket_format bytes.now result.status result.taken }
     ensures detail { IsNamed ⟦<NewSessionTicket as DeserializeBytes>⟧.names bytes.now result.status
@@ -163,7 +175,7 @@ pub extern "C" fn tls13_new_session_ticket_decode_check(alloc: Global, bytes: &[
 
 /// `KeyUpdate` (RFC 8446, section 4.6.3).
 #[unsafe(no_mangle)]
-pub extern "C" fn tls13_key_update_decode_check(alloc: Global, bytes: &[u8]) -> Outcome
+pub extern "C" fn tls13_key_update_decode_check_prefix(alloc: Global, bytes: &[u8]) -> Outcome
     ensures status { DecidesInMemory key_update_format bytes.now result.status }
     ensures taken { IsTaken key_update_format bytes.now result.status result.taken }
     ensures detail { IsNamed ⟦<KeyUpdate as DeserializeBytes>⟧.names bytes.now result.status
