@@ -1,11 +1,14 @@
 #!/usr/bin/env python3
-"""Checks the layout of what isn't Rattle: all files in tools/, .ci/, c/, python/ and rust/.
+"""Checks the layout of what isn't Rattle: all files in tools/, .ci/, c/, python/ and rust/. And crates/ has no foreign files.
 
 A line has at most 140 columns, no tab, and no blank at its end. A file ends with one line feed. Python has at most two empty lines in a
 row, and the backslashes of a macro of C are in one column. Rows (*.tsv) may have tabs and long lines, and a file whose first line says that
 a script of tools/ wrote it, long lines. tools/data/outputs/ has lines of rattle, and isn't read.
 
-Before that it tries each of these on a text with one fault. Prints a line for each fault; last 'N passed, N failed', a file each.
+A file below crates/ has a suffix that its folder has (SUFFIXES), or is an input or output of its crate (OF_PROGRAMS).
+
+Before that it tries each of these on a text or a path with one fault. Prints a line for each fault; last 'N passed, N failed': a file each,
+and one each for the paths below crates/ and for what was tried.
 """
 from __future__ import annotations
 
@@ -21,6 +24,18 @@ OUTPUTS = pathlib.Path("tools/data/outputs")
 COLUMNS = 140
 WRITTEN = re.compile(r"Written by tools/\w+\.py\b")
 C = (".c", ".cc", ".h", ".inc")
+# The suffixes of files in a crate's folders, where an input of a program has none, and what is right in a crate.
+SUFFIXES = {
+    "src": (".rt",),
+    "specs": (".antt",),
+    "proofs": (".antt",),
+    "wrong": (".edit",),
+    "must-fail": (".edit",),
+    "faults": (".fault",),
+    "data": (".tls", ".notes", ""),
+    "runs": (".args", ".stdout", ".status", ""),
+}
+OF_PROGRAMS = ("args", "stdin", "stdout", "status")
 
 
 def faults_of_line(line: str, is_rows: bool, is_written: bool) -> Iterator[str]:
@@ -54,6 +69,23 @@ def faults(path: pathlib.PurePath, text: str) -> Iterator[tuple[int, str]]:
         yield from ((number, "a backslash in another column") for number in macros(lines))
 
 
+def is_foreign(path: pathlib.PurePath) -> bool:
+    """Whether a file below crates/ is none that a crate has."""
+    _, *inside = path.parts
+    if len(inside) < 3:
+        return len(inside) < 2 or path.name not in OF_PROGRAMS
+    return path.name.startswith(".") or path.suffix not in SUFFIXES.get(inside[1], ())
+
+
+def missed_paths() -> list[str]:
+    """The planted paths that aren't found to be foreign, and the others that are."""
+    of_source = ("one/src/lib.antt", "one/src/notes", "one/specs/Lib.rt")
+    planted = ("args", "one/out_one.stages", *of_source, "one/other/lib.rt", "one/runs/short.stages", "one/runs/.short")
+    sound = ("one/src/two/lib.rt", "one/specs/Lib.antt", "one/stdin", "one/runs/short", "one/runs/short.args", "one/data/one.tls")
+    missed = [f"selftest: not found: crates/{it}" for it in planted if not is_foreign(pathlib.PurePath("crates", it))]
+    return missed + [f"selftest: found: crates/{it}" for it in sound if is_foreign(pathlib.PurePath("crates", it))]
+
+
 def selftest() -> list[str]:
     """The planted faults that aren't found, and what is found in texts that have none."""
     long = "x" * (COLUMNS + 1)
@@ -68,12 +100,12 @@ def selftest() -> list[str]:
         "a third empty line": ("it.py", "i = 1\n\n\n\nj = 2\n"),
         "a backslash": ("it.inc", "#define I \\\n  1   \\\n  + 2\n"),
         "a blank in rows": ("it.tsv", "a\tb \n"),
-        "a blank in what is written": ("it.h", "/* Written by tools/exports.py. */\nint i; \n"),
+        "a blank in what is written": ("it.h", "/* Written by tools/check_exports.py. */\nint i; \n"),
     }
     sound = {
         "it.py": f"{long[1:]}\n\n\ni = 1\n",
         "it.tsv": f"a\t{long}\n",
-        "it.h": f"/* Written by tools/exports.py. */\n{long}\n",
+        "it.h": f"/* Written by tools/check_exports.py. */\n{long}\n",
         "it.c": "#define I \\\n  1       \\\n  + 2\n\n\n\nint i;\n",
     }
     missed = [f"selftest: not found: {fault}" for fault, (name, text) in planted.items() if not list(faults(pathlib.PurePath(name), text))]
@@ -81,15 +113,20 @@ def selftest() -> list[str]:
 
 
 def main() -> int:
-    missed = selftest()
+    missed = [*selftest(), *missed_paths()]
     print("".join(f"{it}\n" for it in missed), end="")
-    files = [path for path in files_of_clone() if path.parts[0] in FOLDERS and OUTPUTS not in path.parents]
+    all_files = files_of_clone()
+    files = [path for path in all_files if path.parts[0] in FOLDERS and OUTPUTS not in path.parents]
     failed = {"selftest"} if missed else set()
+    for path in all_files:
+        if path.parts[0] == "crates" and is_foreign(path):
+            print(f"{path}: no crate has such a file there")
+            failed.add("crates")
     for path in files:
         for number, fault in faults(path, (TOP / path).read_text(encoding="utf-8", errors="replace")):
             print(f"{path}:{number}: {fault}")
             failed.add(path.as_posix())
-    print(f"{len(files) + 1 - len(failed)} passed, {len(failed)} failed")
+    print(f"{len(files) + 2 - len(failed)} passed, {len(failed)} failed")
     return 1 if failed or not files else 0
 
 

@@ -12,7 +12,7 @@ import sys
 from lib.dump_input import bytes_of, named, words_of
 from lib.libraries import CRATES, TOP
 from lib.message_reader import PROTOCOLS, Text
-from lib.outcome_reader import TEXTS, Outcome, Span, elements, first_rejected, located
+from lib.outcome_reader import TEXT_OF_LIBRARY, Outcome, Span, elements, first_rejected, located
 from lib.rejections import REJECTIONS
 
 RUNS = CRATES / "tlsdump" / "runs"
@@ -49,7 +49,7 @@ def columns(name: str, data: bytes) -> list[str]:
         return [str(outcome), spans_of(spans) or "-"]
     if name.endswith("_wire_format"):
         outcome, _, tags = located(name.removesuffix("_wire_format"), data)
-        formats = {kind: number for number, _, kind in TEXTS["mls"].enums["WireFormat"][0]}
+        formats = {kind: number for number, _, kind in TEXT_OF_LIBRARY["mls"].enums["WireFormat"][0]}
         return [str(outcome), str(formats[tags["wire_format"]]) if tags else "-"]
     outcome, spans, _ = located(name, data)
     if name.startswith("tls13_"):

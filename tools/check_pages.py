@@ -8,6 +8,8 @@
 - A link that isn't of another site has to lead to a file of the repository, and to a heading of it.
 - A name in `code` that is a path under crates/, docs/, tools/ or .ci/, or has an underscore in it, has to occur in the repository;
   names of what was before, in CHANGELOG.md, and a few of elsewhere don't.
+- A path in a block after <!-- not quoted --> has to be there, and src/lib.rt in the crate that the block names before it. A * is any name,
+  NAME, CRATE, PROGRAM and .. are what a reader puts in; CHANGELOG.md and what a build makes don't count.
 - No line is one that a merge left.
 - No word is one of the dialect (tools/dialect.py). The pages are short, and their reading lists closed (tools/page_limits.py).
 - The pictures are what tools/pictures.py draws, and the arrows between all crates those of crates.txt. No module of tools/lib imports a
@@ -36,6 +38,10 @@ LINK = re.compile(r"\]\(([^()\s]+)\)")
 CODE = re.compile(r"`([^`]+)`")
 ELSEWHERE = {"conditionally_deserializable", "from_iter", "read_to_end"}
 NAMED = re.compile(r"`((?:src|specs|proofs|must-fail|wrong)/[\w/.-]+|(?:stdin|stdout))`")
+# A path in a block, from the top or from a crate on, and what a reader or a build puts in.
+OF_CRATE = r"(?:src|specs|proofs|wrong|must-fail|runs)/"
+IN_BLOCK = re.compile(rf"(?<![\w/.*-])(?:(?:crates|docs|tools|c|python|rust|\.ci)/[\w/.*-]*|{OF_CRATE}[\w/.*-]+)")
+READERS = re.compile(r"NAME|CRATE|PROGRAM|\.\.|/out\b")
 HEAD = re.compile(r"(?:pub )?(?:final )?(?:const |unsafe )*fn ")
 CLAUSES = ("requires", "ensures")
 
@@ -142,6 +148,25 @@ def check_names(lines: list[str], words: set[str]) -> Iterator[Fault]:
                 yield number, f"no such name: {name}"
 
 
+def is_there(path: str) -> bool:
+    """Whether the repository has a path, or a reader puts in what it is."""
+    return bool(READERS.search(path)) or any(TOP.glob(path.rstrip("./")))
+
+
+def check_blocks(lines: list[str]) -> Iterator[Fault]:
+    """The paths in blocks that are no quotes which the repository doesn't have."""
+    for words, _, quote in blocks(lines):
+        # (as long as the block has named no crate, a reader puts it in)
+        before, crate = [line.strip() for line in words if line.strip()], "crates/NAME"
+        for number, line in quote if before[-1:] == ["<!-- not quoted -->"] else ():
+            for path in IN_BLOCK.findall(line):
+                if path.startswith("crates/"):
+                    crate = "/".join(path.split("/")[:2])
+                found = f"{crate}/{path}" if re.match(OF_CRATE, path) else path
+                if not is_there(found):
+                    yield number, f"no such file: {found}"
+
+
 def check_merged(lines: list[str]) -> Iterator[Fault]:
     """The lines that a merge left."""
     for number, line in enumerate(lines, 1):
@@ -178,6 +203,9 @@ def selftest() -> list[str]:
     def quote(*lines: str) -> Iterator[Fault]:
         return check_quotes(["From `src/lib.rt`:", "", "```rust", *lines, "```"], files)
 
+    def in_block(*text: str) -> Iterator[Fault]:
+        return check_blocks(["<!-- not quoted -->", "```text", *text, "```"])
+
     planted = {
         "another line": quote(head, "requires odd { x }", other),
         "a dropped clause": quote(head, clause, "{"),
@@ -186,6 +214,9 @@ def selftest() -> list[str]:
         "no heading": check_links(page, ["[one](#nowhere)"]),
         "no name": check_names(["`no_such_name`"], {"name"}),
         "no path": check_names(["`tools/nowhere.py`"], set()),
+        "no path in a block": in_block("tools/nowhere.py"),
+        "no such names in a block": in_block("tools/nowhere_*.py"),
+        "no path of a crate in a block": in_block("crates/ct/src/, src/nowhere.rt"),
         "a line of a merge": check_merged(["<<<<<<< HEAD"]),
         "a word of the dialect": dialect.words_in("It stands there."),
         "a script in a module": scripts_imported({"one.py": "import re\n    import dialect\n"}),
@@ -194,6 +225,7 @@ def selftest() -> list[str]:
     }
     names = check_names(["`one_name` of `tools/check_pages.py`"], {"one_name"})
     sound = [*quote(head, clause, other, "{"), *check_links(page, ["[one](docs/MAP.md)"]), *names]
+    sound += in_block("src/one.rt", "tools/check_*, tools/.., crates/NAME/src/one.rt", "crates/ct/: src/lib.rt, runs/NAME; c/out")
     sound += [*check_merged(["==="]), *dialect.words_in("It is there."), *scripts_imported({"one.py": "from lib.blocks import prose\n"})]
     missed = [f"selftest: not found: {fault}" for fault, found in planted.items() if not list(found)]
     return missed + [f"selftest: found: {it}" for it in sound]
@@ -212,7 +244,7 @@ def main() -> int:
         lines = page.read_text().split("\n")
         found = [*check_quotes(lines, files), *check_links(page, lines), *check_merged(lines)]
         if page.name != "CHANGELOG.md":
-            found += check_names(lines, words)
+            found += [*check_names(lines, words), *check_blocks(lines)]
         found += ((number, f"{word!r}: {better}") for number, word, better in dialect.findings(page))
         for number, text in sorted(found):
             print(f"{page.relative_to(TOP)}:{number}: {text}")

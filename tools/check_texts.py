@@ -11,18 +11,15 @@ from __future__ import annotations
 import contextlib
 import io
 import pathlib
-import re
 import sys
 import tempfile
 from typing import NamedTuple
 
 import compare_rfc
-from compare_rfc import TEXTS
 from lib.failed import Failed, ended
-from lib.libraries import CRATES, DATA
+from lib.libraries import CRATES, DATA, TEXTS_OF_RFCS
 from lib.presentation import Parser
 
-COMMENT = re.compile(r"/\*.*?\*/|//[^\n]*", re.S)
 # The texts with definitions of each RFC, and the RFCs that are made with page breaks.
 RFCS = {"8446": ["tls13"], "6962": ["ct"], "5246": ["ct"], "9420": ["mls_tree", "mls_group", "mls"]}
 ON_PAGES = ("8446", "6962", "5246")
@@ -137,7 +134,7 @@ def made(rfc: str, change: Change | None) -> str:
         if text.count(change.old) != 1:
             raise Failed(f"not once in our texts of RFC {rfc}: {change.old}")
         text = text.replace(change.old, change.new)
-    text = COMMENT.sub(OTHER_COMMENT, text)
+    text = compare_rfc.COMMENT.sub(OTHER_COMMENT, text)
     lines = ["Engineering Task Force", f"Request for Comments: {rfc}", "", PROSE, "", *text.split("\n"), "", PROSE]
     lines = [f"   {line}".rstrip() for line in lines]
     return "\n".join(on_pages(lines, rfc) if rfc in ON_PAGES else lines) + "\n"
@@ -166,7 +163,7 @@ def is_compared(change: Change | None) -> bool:
     others = [line for line in lines if not line.endswith(": same")]
     right = [wanted(change, rfcs[change.rfc])] if change else []
     failed = int(bool(change) and ": same" not in change.line)
-    total = sum(len(Parser((DATA / f"{name}.tls").read_text()).all()) for name in TEXTS)
+    total = sum(len(Parser((DATA / f"{name}.tls").read_text()).all()) for name in TEXTS_OF_RFCS)
     is_right = others == right and len(lines) == total and counts == f"{total - failed} passed, {failed} failed" and status == failed
     if not is_right:
         printed_lines = [*(f"  wanted: {line}" for line in right), *(f"  printed: {line}" for line in [*others, counts])]
@@ -175,11 +172,11 @@ def is_compared(change: Change | None) -> bool:
 
 
 def main() -> int:
-    copied = sum(map(is_copied, TEXTS))
-    print(f"{copied} of {len(TEXTS)} texts of tlsdump are those of crates/tlsgen/data")
+    copied = sum(map(is_copied, TEXTS_OF_RFCS))
+    print(f"{copied} of {len(TEXTS_OF_RFCS)} texts of tlsdump are those of crates/tlsgen/data")
     compared = sum(map(is_compared, [None, *CHANGES]))
     print(f"{compared} of {len(CHANGES) + 1} comparisons with made RFCs print what they must")
-    failed = len(TEXTS) - copied + len(CHANGES) + 1 - compared
+    failed = len(TEXTS_OF_RFCS) - copied + len(CHANGES) + 1 - compared
     print(f"{copied + compared} passed, {failed} failed")
     return 1 if failed else 0
 

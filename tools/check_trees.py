@@ -14,7 +14,7 @@ from typing import Any
 
 from lib.dump_input import bytes_of, named, words_of
 from lib.failed import Failed, ended
-from lib.libraries import CRATES
+from lib.libraries import CRATES, DATA
 from lib.message_reader import PROTOCOLS, Line, Reader, Rejected, Text
 from lib.presentation import Parser, name_of
 from lib.rejections import REJECTIONS, UNREAD
@@ -57,8 +57,8 @@ def tree_of(lines: list[Line]) -> list[dict[str, Any]]:
         label = line["label"]
         value.update({"index": int(label[1:-1])} if label.startswith("[") else {"name": label})
         if "below" in line:
-            behind = [n for n in range(at + 1, len(lines)) if lines[n]["depth"] <= line["depth"]] + [len(lines)]
-            value[line["below"]] = tree_of(lines[at + 1 : behind[0]]) if behind[0] > at + 1 else []
+            after = [n for n in range(at + 1, len(lines)) if lines[n]["depth"] <= line["depth"]] + [len(lines)]
+            value[line["below"]] = tree_of(lines[at + 1 : after[0]]) if after[0] > at + 1 else []
         if "bytes" in line:
             value["hex"] = line["bytes"].hex()
             value.update({"text": line["text"]} if line["text"] else {})
@@ -119,11 +119,16 @@ NOT_SHOWN = {
 }
 
 
+def own_texts(protocol: str) -> list[str]:
+    """The texts of a protocol, without those of another one."""
+    return [it for it in PROTOCOLS[protocol] if it == protocol or it not in PROTOCOLS]
+
+
 def structs_of(protocol: str) -> set[str]:
     """The structs of a protocol's texts, and what some of them sign."""
     names = set()
-    for text in PROTOCOLS[protocol] if protocol != "tls" else ["tls13"]:
-        for one in Parser((CRATES / "tlsgen" / "data" / f"{text}.tls").read_text()).all():
+    for text in own_texts(protocol):
+        for one in Parser((DATA / f"{text}.tls").read_text()).all():
             if one[0] not in ("enum", "alias"):
                 names.add(name_of(one))
                 names |= {f"{name_of(one)}TBS" for part in one[-2] if part[0] == "signed"}
@@ -133,15 +138,15 @@ def structs_of(protocol: str) -> set[str]:
 def listed() -> str:
     """What --list prints: the structs of the texts, but those of NOT_SHOWN, with the sections that the texts' comments name."""
     out, left_out = "", set().union(*NOT_SHOWN.values())
-    structs = {protocol: structs_of(protocol) for protocol in ("mls", "tls", "ct")}
+    structs = {protocol: structs_of(protocol) for protocol in PROTOCOLS}
     unknown = left_out.difference(*structs.values())
     if unknown:
         raise Failed(f"NOT_SHOWN has what no text has: {', '.join(sorted(unknown))}")
     for protocol, all_names in structs.items():
         names = all_names - left_out
-        for text in PROTOCOLS[protocol] if protocol != "tls" else ["tls13"]:
+        for text in own_texts(protocol):
             rfc = section = ""
-            for line in (CRATES / "tlsgen" / "data" / f"{text}.tls").read_text().splitlines():
+            for line in (DATA / f"{text}.tls").read_text().splitlines():
                 if found := re.match(r"// (?:---- )?(?:.*\()?(RFC \d+)", line):
                     rfc = found[1]
                 if found := re.match(r"// ---- (?:RFC \d+, )?((?:section|appendix) [\w.]*\w)", line):

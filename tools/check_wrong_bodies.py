@@ -9,9 +9,9 @@ A function needs no wrong body if its body is empty, as a law's is, or one call 
 call?; Ok(x)` or `let x = call?; Ok(Type(x))`, and nothing else. What the call is of and its arguments are names, paths, fields and
 literals, and these borrowed or dereferenced. So a constant, a field, `Some(x)`, an operator, a cast and a second call need one.
 
-data/without_wrong_bodies.txt has the exceptions, with reasons; "none yet" is a gap. Prints each function that lacks one, each exception
-that is none, and how many functions are of each class; last 'N passed, N failed', a function each. Before that it tries itself on planted
-functions of each class, and on a crate without one of its edits, which counts as one.
+data/without_wrong_bodies.txt has the exceptions, with reasons. Prints each function that lacks one, each exception that is none, and how
+many functions are of each class; last 'N passed, N failed', a function each. Before that it tries itself on planted functions of each
+class, and on a crate without one of its edits, which counts as one.
 """
 from __future__ import annotations
 

@@ -29,10 +29,9 @@ import sys
 from typing import NamedTuple
 
 from lib.failed import Failed, ended
-from lib.libraries import DATA
+from lib.libraries import DATA, TEXTS_OF_RFCS
 from lib.presentation import Parser, name_of, tokens
 
-TEXTS = ("tls13", "ct", "mls_tree", "mls_group", "mls")
 COMMENT = re.compile(r"/\*.*?\*/|//[^\n]*", re.S)
 FOOTER = re.compile(r"\[Page \d+\]\s*$")
 HEADER = re.compile(r"RFC \d+ .*\d{4}\s*$")
@@ -236,12 +235,12 @@ def verdict(it: Definition, rfc: Rfc) -> Verdict:
 
 
 def compare(rfcs: dict[str, Rfc]) -> list[Verdict]:
-    return [verdict(it, rfcs[it.rfc]) for name in TEXTS for it in definitions(name) if it.rfc in rfcs]
+    return [verdict(it, rfcs[it.rfc]) for name in TEXTS_OF_RFCS for it in definitions(name) if it.rfc in rfcs]
 
 
 def left_out(rfcs: dict[str, Rfc]) -> list[str]:
     """What a reader could believe to be compared: RFCs that no text of ours is from, and definitions of other RFCs in the same texts."""
-    counts = {name: collections.Counter(it.rfc for it in definitions(name)) for name in TEXTS}
+    counts = {name: collections.Counter(it.rfc for it in definitions(name)) for name in TEXTS_OF_RFCS}
     found = [f"not compared: RFC {rfc}: our texts have no definition of it" for rfc in rfcs if not any(rfc in it for it in counts.values())]
     for name, of in counts.items():
         if of.keys() & rfcs.keys():

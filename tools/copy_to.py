@@ -11,27 +11,14 @@ from __future__ import annotations
 
 import pathlib
 import shutil
-import subprocess
 import sys
 from collections.abc import Iterable
 
+from lib.clone import commit
 from lib.libraries import CRATES, TOP, Libraries
 
 LIBRARY = ["tls_codec", "tls_codec_cases", "tls_codec_validate", "tls_codec_views"]
 RECORD = "tls_codec.commit"
-
-
-def git(*words: str) -> str:
-    """What git prints in this folder."""
-    return subprocess.run(["git", *words], cwd=TOP, capture_output=True, text=True, check=False).stdout.strip()
-
-
-def commit() -> str:
-    """The commit of this clone, if this is one."""
-    if not shutil.which("git") or git("rev-parse", "--show-toplevel") != str(TOP):
-        return "no clone"
-    found = git("rev-parse", "--verify", "-q", "HEAD") or "no commit"
-    return f"{found} and changes" if git("status", "--porcelain") else found
 
 
 def copied_before(folder: pathlib.Path) -> list[str]:

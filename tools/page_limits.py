@@ -1,7 +1,7 @@
 #!/usr/bin/env python3
 """Checks that the pages are short and that their lists and figures are right. It runs in check_pages.py, and by hand.
 
-- All pages except docs/DECISIONS.md have at most MOST_WORDS words outside of their blocks: what is between blanks and has a letter, and
+- All pages except docs/DECISIONS.md have at most MAX_WORDS words outside of their blocks: what is between blanks and has a letter, and
   each `code` once.
 - Each record of docs/DECISIONS.md, from `### ` on, is a question, begins with its date and commit, and fits on a screen.
 - Figures of the pages, and answers and sentences of docs/REFUSALS.md, are those of the files that have them (lib/figures.py).
@@ -24,7 +24,7 @@ from lib import figures
 from lib.libraries import CRATES, PAGES, TOP
 
 RECORDS = TOP / "docs/DECISIONS.md"
-MOST_WORDS = 15_000
+MAX_WORDS = 15_000
 SCREEN = 32
 RECORD = re.compile(r"^### (.*)\n((?:(?!##).*\n)*)", re.M)
 DATED = re.compile(r"\n\*20\d\d-\d\d-\d\d, `[0-9a-f]{8}`\*\n")
@@ -57,7 +57,7 @@ def length_findings() -> tuple[list[str], int]:
     """Whether the pages are short enough, and how many were counted."""
     counted = [page for page in PAGES if page != RECORDS]
     total = sum(map(words, counted))
-    found = [f"the pages have {total} words, and may have {MOST_WORDS}"] if total > MOST_WORDS else []
+    found = [f"the pages have {total} words, and may have {MAX_WORDS}"] if total > MAX_WORDS else []
     return found, len(counted)
 
 

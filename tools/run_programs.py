@@ -111,7 +111,7 @@ def copied(program: str, room: str) -> pathlib.Path:
     return folder
 
 
-def is_refused() -> bool:
+def ends_well_if_refused() -> bool:
     """Whether tlsdump ends as it must, and prints nothing, if a request for memory is refused."""
     with tempfile.TemporaryDirectory() as folder:
         shutil.copy(CRATES / "tlsdump" / "runs" / REQUESTS, folder)
@@ -158,11 +158,16 @@ def as_stored(program: str) -> tuple[int, int]:
     return len(same), len(runs)
 
 
-def built(words: list[str], path: pathlib.Path, output: str) -> tuple[int, str]:
+def run_built(words: list[str], path: pathlib.Path, output: str) -> tuple[int, str]:
     """The status of tlsdump as rt ci built it, on an input, and what it prints on standard error."""
     with path.open("rb") as given, open(output, "wb") as out:
         ran = subprocess.run([CRATES / "tlsdump" / "out" / "tlsdump", *words], stdin=given, stdout=out, stderr=subprocess.PIPE)
     return ran.returncode, ran.stderr.decode()
+
+
+def ended_with(status: int, printed: str) -> str:
+    """How a program ended."""
+    return f"status {status}, standard error {printed!r}"
 
 
 def is_as(printed: str, wanted: str) -> bool:
@@ -171,28 +176,34 @@ def is_as(printed: str, wanted: str) -> bool:
     return has_more or printed == wanted
 
 
-def streams() -> collections.abc.Iterator[tuple[str, bool, str]]:
-    """What standard error and the status say of an output without room, and of each input that is rejected or can't be read."""
+def runs_of_built_tlsdump() -> collections.abc.Iterator[tuple[str, bool, str]]:
+    """Whether a run of tlsdump as rt ci built it ends as it must, and how it ended: an output without room, a request for memory that is
+    refused, and each input that is rejected or can't be read."""
     with tempfile.TemporaryDirectory() as room:
         runs = copied("tlsdump", room)
-        statuses = runs_in(runs, "", ".stdout")
-        status, printed = built([], runs / "key_package", "/dev/full")
-        yield "tlsdump, full", (status, printed.startswith("tlsdump: ")) == (NO_ROOM, True), printed
-        is_so, printed = with_one_refused(CRATES / "tlsdump" / "out" / "tlsdump", runs / REQUESTS)
-        yield "tlsdump, one request refused", is_so, printed
-        for wanted, lines in ((1, rejections.REJECTIONS), (2, UNREAD)):
-            if differ := set(lines) ^ {name for name, status in statuses.items() if status == wanted}:
-                raise Failed(f"tlsdump: runs with status {wanted} and no line, or lines and no such run: {', '.join(sorted(differ))}")
-            for name, line in lines.items():
-                words = runs / f"{name}.args"
-                given = words.read_text().split() if words.exists() else []
-                status, printed = built([word for word in given if word != "--json"], runs / name, "/dev/null")
-                line = f"tlsdump: {line}" if line.endswith(" ") else f"tlsdump: {line}\n"
-                yield f"tlsdump, {name}", status == wanted and is_as(printed, line), printed
+        status, printed = run_built([], runs / "key_package", "/dev/full")
+        yield "tlsdump, full", (status, printed.startswith("tlsdump: ")) == (NO_ROOM, True), ended_with(status, printed)
+        is_so, ends = with_one_refused(CRATES / "tlsdump" / "out" / "tlsdump", runs / REQUESTS)
+        yield "tlsdump, one request refused", is_so, f"each request, its status, output and standard error:\n{ends}"
+        yield from rejections_of_built_tlsdump(runs)
+
+
+def rejections_of_built_tlsdump(runs: pathlib.Path) -> collections.abc.Iterator[tuple[str, bool, str]]:
+    """The same of each input in a folder of runs that is rejected or can't be read."""
+    statuses = runs_in(runs, "", ".stdout")
+    for wanted, lines in ((1, rejections.REJECTIONS), (2, UNREAD)):
+        if differ := set(lines) ^ {name for name, status in statuses.items() if status == wanted}:
+            raise Failed(f"tlsdump: runs with status {wanted} and no line, or lines and no such run: {', '.join(sorted(differ))}")
+        for name, line in lines.items():
+            words = runs / f"{name}.args"
+            given = words.read_text().split() if words.exists() else []
+            status, printed = run_built([word for word in given if word != "--json"], runs / name, "/dev/null")
+            line = f"tlsdump: {line}" if line.endswith(" ") else f"tlsdump: {line}\n"
+            yield f"tlsdump, {name}", status == wanted and is_as(printed, line), ended_with(status, printed)
 
 
 def generated_runs() -> collections.abc.Iterator[tuple[str, bool, str]]:
-    """What standard error and the status say of each run of tlsgen as rt ci built it, which writes what it must and prints no more."""
+    """Whether each run of tlsgen as rt ci built it writes what it must and prints no more, and how it ended."""
     folder = CRATES / "tlsgen"
     statuses = runs_in(folder / "runs", ".args")
     if differ := set(statuses) ^ set(TLSGEN):
@@ -206,19 +217,22 @@ def generated_runs() -> collections.abc.Iterator[tuple[str, bool, str]]:
             made = pathlib.Path(room, "made")
             files = {path.relative_to(made).as_posix(): path.read_text() for path in made.rglob("*") if path.is_file()}
         is_so = (ran.returncode, ran.stdout) == (statuses[name], "") and is_as(ran.stderr, wanted)
-        yield f"tlsgen, {name}", is_so and files == (generated.stored_files() if name == WRITES else {}), ran.stderr
+        stored = generated.stored_files() if name == WRITES else {}
+        differ = sorted(it for it in {*files, *stored} if files.get(it) != stored.get(it))
+        how = f"{ended_with(ran.returncode, ran.stderr)}, output {ran.stdout!r}, files that differ: {differ}"
+        yield f"tlsgen, {name}", is_so and not differ, how
 
 
 def main() -> int:
     for name in ("tlsdump", "tlsgen"):
         if not (CRATES / name / "out" / name).is_file():
             raise Failed(f"crates/{name}/out/{name} is not there: rt ci or rt run builds it")
-    passed = int(is_refused())
+    passed = int(ends_well_if_refused())
     wanted = 1
-    for name, is_so, printed in [*streams(), *generated_runs()]:
+    for name, is_so, printed in [*runs_of_built_tlsdump(), *generated_runs()]:
         wanted, passed = wanted + 1, passed + is_so
         if not is_so:
-            print(f"{name}: standard error has {printed!r}")
+            print(f"{name}: {printed}")
     for folder in sorted(CRATES.glob("*/runs")):
         if folder.parent.name != "tlsgen":
             well, runs = as_stored(folder.parent.name)

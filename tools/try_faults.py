@@ -26,7 +26,7 @@ import tempfile
 
 from lib import cases, generated, verdicts
 from lib.failed import Failed, ended
-from lib.libraries import CRATES, DATA, TEXTS, TOP, Libraries
+from lib.libraries import CRATES, DATA, TEXT_OF_CRATE, TOP, Libraries
 
 # Pages of the laws that are the text's, and stay.
 OF_TEXT = ("Text", "Notes", "Definitions")
@@ -79,7 +79,7 @@ def written_from(data: pathlib.Path, crate: str, to: pathlib.Path) -> None:
         file.write_text(code)
 
 
-def one_crate(crate: str, room: pathlib.Path) -> list[str]:
+def move_laws_into(crate: str, room: pathlib.Path) -> list[str]:
     """Makes the laws modules of the crate itself; returns these modules' names."""
     below, above = room / "crates" / crate, room / "crates" / f"{crate}_laws"
 
@@ -108,9 +108,8 @@ def one_crate(crate: str, room: pathlib.Path) -> list[str]:
 
 def checked(libraries: Libraries, crate: str, room: pathlib.Path, modules: list[str]) -> str:
     libraries.uses[crate] = list(dict.fromkeys([*libraries.uses[crate], *(it for it in libraries.uses[f"{crate}_laws"] if it != crate)]))
-    words = [f"{libraries.kit}/bin/rattle", "check", *libraries.words(crate), *(word for it in modules for word in ("--only", it))]
-    how = {"stdin": subprocess.DEVNULL, "stdout": subprocess.PIPE, "stderr": subprocess.STDOUT}
-    return subprocess.run(words, cwd=room / "crates" / crate, text=True, errors="replace", **how).stdout
+    only = [word for it in modules for word in ("--only", it)]
+    return libraries.rattle("check", crate, only, room / "crates" / crate)[1]
 
 
 def laws_tried(output: str, crate: str, room: pathlib.Path) -> dict[str, set[str]]:
@@ -138,18 +137,18 @@ def laws_in(crate: str, room: pathlib.Path, modules: list[str]) -> int:
 
 
 def prepared(crate: str, faults: list[Fault], room: pathlib.Path) -> list[str]:
-    text = TEXTS[crate]
+    text = TEXT_OF_CRATE[crate]
     data = room / "crates" / "tlsgen" / "data"
     shutil.copytree(DATA, data)
     (data / f"{text}.tls").write_text(with_faults((data / f"{text}.tls").read_text(), faults))
     written_from(data, crate, room / "crates" / crate)
     shutil.copytree(TOP / "tools", room / "tools", ignore=shutil.ignore_patterns("__pycache__"))
     shutil.copy(TOP / "crates.txt", room)
-    subprocess.run([sys.executable, room / "tools" / "write_laws.py", crate, text], check=True, stdout=subprocess.DEVNULL)
+    subprocess.run([sys.executable, room / "tools" / "write_laws.py", crate], check=True, stdout=subprocess.DEVNULL)
     for page in (CRATES / f"{crate}_laws" / "specs").glob("*.antt"):
         if any(it in page.stem for it in OF_TEXT):
             shutil.copy(page, room / "crates" / f"{crate}_laws" / "specs" / page.name)
-    return one_crate(crate, room)
+    return move_laws_into(crate, room)
 
 
 def main() -> int:

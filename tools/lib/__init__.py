@@ -3,8 +3,8 @@
 All files are UTF-8. .ci/run and quick set PYTHONUTF8; without it Python reads files so in the locale C, and in each one of UTF-8.
 
 - All scripts: failed (what they end with if they can't go on).
-- The repository and what is built of it: libraries (folders, crates), cases (`rt try --cases`), generated (runs of `tlsgen`), edits and
-  verdicts (wrong bodies).
+- The repository and what is built of it: libraries (folders, crates, texts, runs of rattle), clone (the commit), cases (`rt try --cases`),
+  generated (runs of `tlsgen`), edits and verdicts (wrong bodies).
 - The library: type_tests (which tests each type has).
 - Readers that share no code with the crates: presentation and message_reader (texts of RFCs), row_reader (types), outcome_reader
   (messages), shown (numbers, dates), dump_input (inputs of `tlsdump`), rejections (those that it rejects).

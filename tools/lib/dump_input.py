@@ -33,4 +33,4 @@ def named(words: list[str], data: bytes) -> tuple[str, str]:
     if "." in names[0]:
         protocol, _, of = names[0].partition(".")
         return protocol, of
-    return next((protocol, names[0]) for protocol in ("ct", "tls", "mls") if names[0] in Text(PROTOCOLS[protocol]).structs)
+    return next((protocol, names[0]) for protocol in reversed(PROTOCOLS) if names[0] in Text(PROTOCOLS[protocol]).structs)

@@ -4,18 +4,17 @@ from __future__ import annotations
 import pathlib
 import re
 
-from lib.libraries import CRATES, TEXTS, TOP
+from lib.libraries import CRATES, TEXT_OF_CRATE, written_below
 
 
 def words(crate: str, text: str) -> list[str]:
     """The words for a crate: its notes, and those that it uses with theirs."""
-    uses = re.search(rf"^{crate}:(.*)$", (TOP / "crates.txt").read_text(encoding="utf-8"), re.M).group(1).split()
-    others = [f"{other}={TEXTS[other]}.tls,{TEXTS[other]}.notes" for other in uses if other in TEXTS]
+    others = [f"{other}={TEXT_OF_CRATE[other]}.tls,{TEXT_OF_CRATE[other]}.notes" for other in written_below(crate)]
     return ["--notes", f"{text}.notes"] + [word for other in others for word in ("--with", other)]
 
 
 # For each run: the crate whose files are compared, the text, and the words.
-RUNS = {crate: (crate, text, words(crate, text)) for crate, text in TEXTS.items()}
+RUNS = {crate: (crate, text, words(crate, text)) for crate, text in TEXT_OF_CRATE.items()}
 
 
 def add(folder: str, name: str, text: str, more: list[str], crate: str | None = None) -> None:

@@ -17,9 +17,11 @@ PAGES = [*sorted(TOP.glob("*.md")), *sorted((TOP / "docs").glob("*.md"))]
 CALLER_PAGES = [TOP / name / "README.md" for name in ("c", "python", "rust")]
 # The rows of messages that validators and decoders of callers are tried with.
 ROWS = [CRATES / "test_outcome" / "stdout", TOP / "c" / "tests" / "tls13.tsv"]
-# The crates with laws that tlsgen wrote, and the text of each, which has the crate's name but in one place.
+# The crates that tlsgen wrote from a text, which have laws, and the text of each. It has the crate's name, if it isn't among these.
 OTHER_NAMES = {"messages_of_each_shape": "each_shape"}
-TEXTS = {it: OTHER_NAMES.get(it, it) for it in re.findall(r"^(\w+)_laws:", (TOP / "crates.txt").read_text(), re.M)}
+TEXT_OF_CRATE = {it: OTHER_NAMES.get(it, it) for it in re.findall(r"^(\w+)_laws:", (TOP / "crates.txt").read_text(), re.M)}
+# The texts from RFCs: all but one.
+TEXTS_OF_RFCS = [it for it in TEXT_OF_CRATE.values() if it != "each_shape"]
 
 
 def files_of_clone() -> list[pathlib.Path]:
@@ -32,6 +34,23 @@ def files_of_clone() -> list[pathlib.Path]:
         paths = [it.relative_to(TOP) for it in TOP.rglob("*") if it.is_file()]
         found = [it for it in paths if not {".git", "out", "target", "__pycache__"} & set(it.parts)]
     return sorted(set(found))
+
+
+def written_below(crate: str) -> list[str]:
+    """The written crates that a written crate uses: its text is over theirs."""
+    return [it for it in Libraries().uses[crate] if it in TEXT_OF_CRATE]
+
+
+def texts_of(crate: str) -> list[str]:
+    """The text of a written crate, and those that it is over, the lowest last."""
+    return [TEXT_OF_CRATE[it] for it in (crate, *reversed(written_below(crate)))]
+
+
+def run(words: list[str], folder: pathlib.Path) -> tuple[int, str]:
+    """Runs a command in a folder, without an input: its status, and what it prints, with its errors."""
+    how = {"stdin": subprocess.DEVNULL, "stdout": subprocess.PIPE, "stderr": subprocess.STDOUT}
+    ran = subprocess.run(words, cwd=folder, text=True, errors="replace", **how)
+    return ran.returncode, ran.stdout
 
 
 class Libraries:
@@ -60,6 +79,10 @@ class Libraries:
     def rlib(self, crate: str) -> pathlib.Path:
         return CRATES / crate / "out" / "rlib" / f"{crate}.rlib"
 
+    def is_stamped(self, crate: str) -> bool:
+        """Whether a session's own command built the library: it has a stamp then. Those that `rt ci` built have none, and fit no others."""
+        return (self.rlib(crate).parent / "stamp").is_file()
+
     def lacking(self, crate: str) -> list[str]:
         return [it for it in self.below(crate) if not (self.rlib(it) / "format").is_file()]
 
@@ -74,3 +97,7 @@ class Libraries:
         logic = ["--antt-project", f"{kit}/rattle/logic/antt-project.json", "--logic-built", f"{kit}/logic_built"]
         crate_type = ["--crate-type", "staticlib"] if crate in self.static else []
         return [*words, *logic, "--links", f"{crate}=", "--jobs", "1", *crate_type]
+
+    def rattle(self, command: str, crate: str, more: list[str], folder: pathlib.Path) -> tuple[int, str]:
+        """Runs a command of the kit's rattle over a crate, whose files are in this folder: its status, and what it prints."""
+        return run([f"{self.kit}/bin/rattle", command, *self.words(crate), *more], folder)

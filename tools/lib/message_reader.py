@@ -3,11 +3,15 @@ from __future__ import annotations
 
 from typing import Any
 
-from lib.libraries import DATA
+from lib.libraries import DATA, texts_of
 from lib.presentation import Field, Parser, Part, Select, Value, name_of, plain
+from lib.row_reader import VARIABLE, Input
+from lib.row_reader import Rejected as Unread
 from lib.shown import counted, date, number_text, text_of
 
-PROTOCOLS = {"mls": ["mls", "mls_group", "mls_tree"], "tls": ["tls13", "ct"], "ct": ["ct"]}
+# The texts of each protocol of `tlsdump`. Messages of TLS have some of Certificate Transparency inside. A name that two have is the last
+# one's.
+PROTOCOLS = {"mls": texts_of("mls"), "tls": texts_of("tls13") + texts_of("ct"), "ct": texts_of("ct")}
 WIDTHS = {"opaque": 1, "uint8": 1, "uint16": 2, "uint24": 3, "uint32": 4, "uint64": 8}
 # What no text names: versions and suites of TLS (RFC 8446, sections 4.1.2 and 4.2.1, and appendix B.4).
 TLS_NAMES = {
@@ -39,6 +43,8 @@ EXTENSIONS = {
     "supported_versions": "SupportedVersions",
     "pre_shared_key": "PreSharedKeyExtension",
 }
+# Those whose content depends on the message that they are in.
+IN_MESSAGES = ("early_data", "supported_versions", "pre_shared_key")
 OWN = "struct { opaque application_id<V>; } ApplicationId; struct { Handshake messages[rest]; } HandshakeMessages;"
 
 
@@ -72,6 +78,7 @@ class Text:
             self.define((DATA / f"{name}.tls").read_text())
             self.note((DATA / f"{name}.notes").read_text())
         self.define(OWN)
+        self.fills_rest.add("HandshakeMessages.messages")
         fields = [(of, part) for of, parts in self.structs.items() for part in parts if "cases" not in part]
         # the enums that are the tag of a select right in their struct
         self.tags = {part["of"] for of, part in fields if self.select_on(of, part["name"]) and part["of"] not in self.others}
@@ -191,10 +198,12 @@ class Reader:
             else:
                 self.field(of, part, part["name"], depth)
                 self.has_case(of, part["name"], depth)
-        if of == "Handshake":
-            if self.left():
-                raise Rejected("length", depth)
-            self.end = end
+        names = [part["name"] for part in self.text.structs[of] if "cases" not in part]
+        for name in names:
+            if f"{of}.{name}" in self.text.counts_rest:
+                if self.left():
+                    raise Rejected(name, depth)
+                self.end = end
 
     def has_case(self, of: str, name: str, depth: int) -> None:
         """A tag that no case of a select in its struct has is rejected where it is."""
@@ -260,7 +269,7 @@ class Reader:
         if kind == "array":
             return bounds[0], 0
         if kind == "counted":
-            return self.left() if of in ("Finished", "HandshakeMessages") else self.known[end_of(bounds[0])], 0
+            return self.left() if f"{of}.{field['name']}" in self.text.fills_rest else self.known[end_of(bounds[0])], 0
         if kind == "bounded":
             least, most = bounds
             width = (most.bit_length() + 7) // 8
@@ -268,19 +277,19 @@ class Reader:
             if not least <= count <= most:
                 raise Rejected(label, depth)
             return count, width
-        first = self.take(1, label, depth)[0]
-        width = 1 << (first >> 6)
-        if width == 8:
-            raise Rejected(label, depth)
-        count = (first & 0x3F) << 8 * (width - 1) | int.from_bytes(self.take(width - 1, label, depth), "big")
-        if width > 1 and count < 1 << (8 * (width // 2) - 2):
-            raise Rejected(label, depth)
-        return count, width
+        source = Input(self.data[self.at : self.end], True)
+        try:
+            count = VARIABLE.read(source)
+        except Unread:
+            raise Rejected(label, depth) from None
+        self.at += source.at
+        return count, source.at
 
     def content(self, of: str, label: str | None, at: int, count: int, width: int, depth: int) -> None:
         """The bytes of a vector: as a message, if they are known to be one, or in hex."""
         if (of, width) == ("CipherSuite", 0):
-            return self.code(at, label, depth, self.take(count, label, depth), TLS_NAMES["CipherSuite"])
+            data = self.take(count, label, depth)
+            return self.code(at, label, depth, data, TLS_NAMES["CipherSuite"].get(int.from_bytes(data, "big")))
         start, end, lines, known, opened = self.at, self.end, len(self.lines), dict(self.known), self.opened(of, label, count)
         if opened:
             self.end = self.at + count
@@ -311,6 +320,8 @@ class Reader:
             return {"client_hello": "KeyShareClientHello", "server_hello": f"KeyShare{short}"}.get(message)
         if (name, message) == ("signed_certificate_timestamp", "certificate"):
             return "SignedCertificateTimestampList"
+        if name in IN_MESSAGES and message is None:
+            return None
         return EXTENSIONS.get(name)
 
     def value(self, of: str, field: Field, label: str | None, depth: int) -> None:
@@ -335,17 +346,16 @@ class Reader:
                 self.line(at, depth, label, of, below="fields", type=of)
             return self.struct(of, below)
         if of in self.text.enums:
-            values, width = self.text.enums[of]
-            data = self.take(width, label, depth)
-            names = {int.from_bytes(data, "big"): name for first, last, name in values if first <= int.from_bytes(data, "big") <= last}
-            self.check(owner, of, label, depth, int.from_bytes(data, "big"))
-            self.known[label] = names.get(int.from_bytes(data, "big"))
-            return self.code(at, label, depth, data, names)
+            data = self.take(self.text.enums[of][1], label, depth)
+            number = int.from_bytes(data, "big")
+            self.check(owner, of, label, depth, number)
+            name = self.known[label] = self.text.name(of, number)
+            return self.code(at, label, depth, data, name)
         if of in WIDTHS:
             data = self.take(WIDTHS[of], label, depth)
             number = self.known[label] = int.from_bytes(data, "big")
             self.check(owner, of, label, depth, number)
-            if (owner, label) == ("Handshake", "length"):
+            if f"{owner}.{label}" in self.text.counts_rest:
                 if number > self.left():
                     raise Rejected(label, depth)
                 self.end = self.at + number
@@ -354,9 +364,9 @@ class Reader:
         other = self.text.others[of]
         if other["vector"] == ("one",) and other["of"] in WIDTHS:
             data = self.take(WIDTHS[other["of"]], label, depth)
-            names = TLS_NAMES.get(of, {}) if self.protocol == "tls" else {}
-            self.check(owner, of, label, depth, int.from_bytes(data, "big"))
-            return self.code(at, label, depth, data, names)
+            number = int.from_bytes(data, "big")
+            self.check(owner, of, label, depth, number)
+            return self.code(at, label, depth, data, TLS_NAMES.get(of, {}).get(number) if self.protocol == "tls" else None)
         self.field(of, other, label, depth)
 
     def check(self, owner: str | None, of: str, label: str | None, depth: int, number: int) -> None:
@@ -364,9 +374,8 @@ class Reader:
         if number != self.text.constants.get((owner, label), number) or not self.text.has(of, number):
             raise Rejected(label, depth)
 
-    def code(self, at: int, label: str | None, depth: int, data: bytes, names: dict[int, str]) -> None:
+    def code(self, at: int, label: str | None, depth: int, data: bytes, name: str | None) -> None:
         """The line of a number that may have a name."""
-        name = names.get(int.from_bytes(data, "big"))
         if name is None and len(data) == 2 and data[0] == data[1] and data[0] & 15 == 10:
             name = "GREASE"
         digits = f"0x{data.hex()}"

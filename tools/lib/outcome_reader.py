@@ -5,16 +5,17 @@ path), docs/MESSAGES.md (which numbers an enum has, and what a note says) and do
 """
 from __future__ import annotations
 
-import re
 from dataclasses import dataclass
 from typing import Any
 
+from lib.libraries import TEXT_OF_CRATE, Libraries, texts_of
 from lib.message_reader import WIDTHS, Text, end_of
-from lib.row_reader import LENGTHS, Input, Varint
+from lib.presentation import snake
+from lib.row_reader import VARIABLE, Input
 from lib.row_reader import Rejected as Unread
 
-# The texts of each library.
-TEXTS = {library: Text(names) for library, names in {"mls": ["mls", "mls_group", "mls_tree"], "tls13": ["tls13"]}.items()}
+# The texts of each library whose messages callers validate.
+TEXT_OF_LIBRARY = {it: Text(texts_of(it)) for it in TEXT_OF_CRATE if f"{it}_c" in Libraries().static}
 # The statuses of docs/CALLERS.md that a validator returns.
 STATUSES = {"InvalidVectorLength": 2, "DecodingError": 5, "EndOfStream": 6, "TrailingData": 7, "UnknownValue": 8}
 NOT_THERE = 'DecodingError("declared content is not there")'
@@ -148,7 +149,7 @@ class Reader:
             return count
         source = Input(self.data[begun : self.end], True)
         try:
-            count = Varint(LENGTHS).read(source)
+            count = VARIABLE.read(source)
         except Unread as error:
             raise Rejected(str(error), begun) from None
         self.at += source.at
@@ -197,17 +198,12 @@ class Reader:
             self.known[label] = name
 
 
-def snake(name: str) -> str:
-    """`TLSPlaintext` as `tls_plaintext`, and `MLSMessage` as `mls_message`."""
-    return re.sub(r"(?<=[a-z])(?=[A-Z])|(?<=[A-Z])(?=[A-Z][a-z])", "_", name).lower()
-
-
 def struct_of(name: str) -> tuple[Text, str]:
     """The struct that a name of the static libraries is of, and its texts: `MLSMessage` of mls_message, `KeyPackage` of mls_key_package."""
     library = name.partition("_")[0]
-    for it in TEXTS[library].structs if library in TEXTS else ():
+    for it in TEXT_OF_LIBRARY[library].structs if library in TEXT_OF_LIBRARY else ():
         if name == f"{library}_{snake(it).removeprefix(f'{library}_')}":
-            return TEXTS[library], it
+            return TEXT_OF_LIBRARY[library], it
     raise LookupError(f"no struct is called {name} in the static libraries")
 
 

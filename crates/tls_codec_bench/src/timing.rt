@@ -13,10 +13,10 @@ const BATCH_NANOS: u64 = 20_000_000;
 const ROUND_NANOS: u64 = 1_000_000;
 
 /// A round has fewer calls than 2 to the power of this.
-const MOST_DOUBLINGS: u32 = 24;
+const MAX_DOUBLINGS: u32 = 24;
 
 /// How many rounds a batch may have. A clock that goes on ends it long before.
-const MOST_ROUNDS: u32 = 1_000_000;
+const MAX_ROUNDS: u32 = 1_000_000;
 
 /// The nanoseconds that a call takes: the median of the batches.
 ///
@@ -39,7 +39,7 @@ fn calls_a_round<C: Clock, F: Fn() -> bool>(clock: &C, call: &F) -> Result<u64, 
     ensures { IfOk result (λ calls. 0 < calls) }
 {
     let mut calls = 1;
-    for _ in 0..MOST_DOUBLINGS {
+    for _ in 0..MAX_DOUBLINGS {
         let first = round(clock, call, calls)?;
         let second = round(clock, call, calls)?;
         let third = round(clock, call, calls)?;
@@ -67,7 +67,7 @@ fn batch<C: Clock, F: Fn() -> bool>(clock: &C, call: &F, calls: u64) -> Result<u
 {
     let start = Instant::now(clock)?;
     let mut made = 0;
-    for _ in 0..MOST_ROUNDS {
+    for _ in 0..MAX_ROUNDS {
         repeat(call, calls)?;
         made = calls.saturating_add(made);
         let nanos = nanos_since(clock, start)?;

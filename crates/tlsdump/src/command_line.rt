@@ -27,7 +27,7 @@ pub fn command<'a>(alloc: Global) -> Result<Command<'a>, AllocError> {
     );
     let list = flag(alloc, "list", "Print the types");
     Command::new(alloc, "tlsdump")
-        .version("0.2.0")
+        .version("0.3.0")
         .about(
             "Shows messages of MLS, TLS 1.3 and Certificate Transparency as a tree, one field per line.
 

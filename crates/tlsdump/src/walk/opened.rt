@@ -45,7 +45,6 @@ fn extension(name: &str) -> Option<&'static str> {
         "certificate_authorities" => Some("CertificateAuthoritiesExtension"),
         "oid_filters" => Some("OIDFilterExtension"),
         "post_handshake_auth" => Some("PostHandshakeAuth"),
-        "early_data" => Some("EarlyDataIndication"),
         _ => None,
     }
 }
@@ -57,6 +56,7 @@ fn extension_of(scope: &Scope<'_>, name: &str, content: &[u8]) -> Option<&'stati
     match (name, message) {
         ("supported_versions", _) => Some("SupportedVersions"),
         ("pre_shared_key", _) => Some("PreSharedKeyExtension"),
+        ("early_data", _) => Some("EarlyDataIndication"),
         ("key_share", "client_hello") => Some("KeyShareClientHello"),
         ("key_share", "server_hello") if content.len() == 2 => Some("KeyShareHelloRetryRequest"),
         ("key_share", "server_hello") => Some("KeyShareServerHello"),

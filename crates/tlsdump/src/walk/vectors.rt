@@ -6,6 +6,8 @@ use crate::walk::opened::{code_name, content_of};
 use crate::walk::stop::{Expected, Found, WalkError};
 use crate::walk::tasks::{Elements, Leave, Place, Task};
 use crate::walk::{Opening, Walk, stop_at};
+use tls_codec::Error;
+use tls_codec::vlen::split_length;
 use tlsgen_syntax::syntax::{Field, Name, Said, Vector};
 
 // A length in front of a content.
@@ -72,32 +74,20 @@ impl<'a> Walk<'a> {
     ) -> Result<Length<'a>, WalkError<'a>> {
         let expected = Expected::Field(field);
         let (at, from) = (self.at, self.rest);
-        let Some(first) = from.first() else {
-            return Err(stop_at(place, at, expected, Found::Left(0)));
+        let (count, rest) = match split_length(from) {
+            Ok(found) => found,
+            Err(Error::EndOfStream) => {
+                return Err(stop_at(place, at, expected, Found::Left(from.len())));
+            }
+            Err(_) => return Err(stop_at(place, at, expected, Found::Spelling)),
         };
-        let (width, least) = match first >> 6 {
-            0 => (1, 0),
-            1 => (2, 0x40),
-            2 => (4, 0x4000),
-            _ => return Err(stop_at(place, at, expected, Found::Spelling)),
-        };
-        let Some(bytes) = self.take(width) else {
-            return Err(stop_at(place, at, expected, Found::Left(from.len())));
-        };
-        let marked = number_of(bytes);
-        let count = match width {
-            1 => marked & 0x3f,
-            2 => marked & 0x3fff,
-            _ => marked & 0x3fff_ffff,
-        };
-        if count < least {
-            return Err(stop_at(place, at, expected, Found::Spelling));
-        }
+        let width = from.len().saturating_sub(rest.len());
+        self.take(width);
         Ok(Length {
             at,
             from,
             width,
-            count: count as usize,
+            count,
         })
     }
 
