@@ -17,7 +17,7 @@ use std::alloc::Global;
 use std::io::Read;
 use std::process::ExitCode;
 
-/// The toolchain refuses this request of a run. The rows make fewer.
+// The toolchain refuses this request of a run. The rows make fewer.
 const LAST: u64 = 256;
 
 fn main(rt: HostRuntime) -> std::io::Result<ExitCode> {
@@ -41,14 +41,14 @@ fn main(rt: HostRuntime) -> std::io::Result<ExitCode> {
     }
 }
 
-/// Runs all rows, and returns how many requests they make.
+// Runs all rows, and returns how many requests they make.
 fn run(alloc: Global, requests: &mut Requests) -> Result<u64, Wrong> {
     requests.make_up_to(alloc, LAST)?;
     rows::all(alloc, requests)?;
     requests.end(LAST)
 }
 
-/// The number that the input has, and 0 for none.
+// The number that the input has, and 0 for none.
 fn number_in<R: Read + Drop>(mut input: R) -> std::io::Result<u64> {
     let mut bytes = [0u8; 16];
     let count = input.read(&mut bytes)?;

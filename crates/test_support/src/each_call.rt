@@ -51,7 +51,9 @@ pub fn expect_written<T: Serialize>(
     same_at(row, received.as_slice(), bytes)?;
     let count = done_at(row, value.tls_serialize_into(&mut received))?;
     same_at(row, count, bytes.len())?;
-    same_at(row, received.get(bytes.len()..), Some(bytes))?;
+    let mut twice = bytes.to_vec(alloc)?;
+    twice.extend_from_slice(bytes)?;
+    same_at(row, received.as_slice(), twice.as_slice())?;
     Ok(())
 }
 
@@ -206,7 +208,7 @@ pub fn expect_not_decoded<T: Deserialize + DeserializeBytes>(
     same_at(row, dripped, Some(of_source))
 }
 
-// The decoders that read to the end reject another byte after these.
+// To the end of the bytes, each decoder rejects another byte after these.
 fn expect_another_byte_rejected<T: Deserialize + Validate>(
     alloc: Global,
     row: &str,
@@ -214,9 +216,5 @@ fn expect_another_byte_rejected<T: Deserialize + Validate>(
 ) -> Result<(), Fail> {
     let mut longer = bytes.to_vec(alloc)?;
     longer.push(0)?;
-    let split = T::tls_deserialize_exact_bytes(alloc, &longer).err();
-    same_at(row, split, Some(Error::TrailingData))?;
-    let read = T::tls_deserialize_exact(alloc, &longer).err();
-    same_at(row, read, Some(Error::TrailingData))?;
-    Ok(())
+    expect_rejected::<T>(alloc, row, &longer, Error::TrailingData)
 }

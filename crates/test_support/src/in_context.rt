@@ -47,11 +47,13 @@ pub fn expect_written_in<C: Size, T: SerializeFor<C>>(
     same_at(row, received.as_slice(), bytes)?;
     let count = done_at(row, value.tls_serialize_into_for(context, &mut received))?;
     same_at(row, count, bytes.len())?;
-    same_at(row, received.get(bytes.len()..), Some(bytes))?;
+    let mut twice = bytes.to_vec(alloc)?;
+    twice.extend_from_slice(bytes)?;
+    same_at(row, received.as_slice(), twice.as_slice())?;
     Ok(())
 }
 
-/// The round trip: the bytes are this value's, and no prefix is.
+/// The round trip: the bytes are this value's, with others after them too, and no prefix is.
 pub fn expect_encoded_as_in<C: Keyed, T>(
     alloc: Global,
     row: &str,
@@ -67,10 +69,30 @@ where
     same_at(row, &done_at(row, split)?, value)?;
     expect_written_in(alloc, row, context, value, bytes)?;
     same_at(row, &value.clone()?, value)?;
+    expect_left_in::<C, T>(alloc, row, context, value, bytes)?;
     for length in 0..bytes.len() {
         expect_cut_off_in::<C, T>(alloc, row, context, &bytes[..length])?;
     }
     Ok(())
+}
+
+// A slice's decoder leaves another byte after these, and to the end of the bytes each decoder rejects it.
+fn expect_left_in<C: Keyed, T>(
+    alloc: Global,
+    row: &str,
+    context: &C,
+    value: &T,
+    bytes: &[u8],
+) -> Result<(), Fail>
+where
+    T: DeserializeFor<C> + ValidateFor<C> + Eq + Debug,
+{
+    let mut longer = bytes.to_vec(alloc)?;
+    longer.push(0xee)?;
+    let (found, rest) = T::tls_deserialize_bytes_for(context, alloc, &longer)?;
+    same_at(row, &found, value)?;
+    same_at(row, rest, [0xee].as_slice())?;
+    expect_rejected_in::<C, T>(alloc, row, context, &longer, Error::TrailingData)
 }
 
 // A slice's decoder rejects the bytes, as does validation with its error, and a source has ended.

@@ -1,4 +1,4 @@
--- Which errors decoders of options, products and lists name: their parts' are handed on.
+-- Which errors decoders of options, products and lists name: their parts' are passed on.
 use Rattle.std.specs.Prelude.{◌≡◌, ◌<◌, ◌+◌, ◌⊎◌, ℕ, List, [], ◌∷◌, ◌++◌, length, take, codes}
 use Rattle.tls_codec_wire.specs.Bounded.{inner_of, limit_of}
 use Rattle.tls_codec_wire.specs.Counts.{Counts, NoneFell}

@@ -1,4 +1,4 @@
--- Which errors decoders of a choice with a tag name: those of the parts after it are handed on.
+-- Which errors decoders of a choice with a tag name: those of the parts after it are passed on.
 use Rattle.std.specs.Prelude.{◌≡◌, ◌<◌, ◌⊎◌, ◌==◌, ℕ, length, Bool, true, false}
 use Rattle.tls_codec_wire.specs.Digits.{Digits}
 use Rattle.tls_codec_wire.specs.Refused.{Causes}

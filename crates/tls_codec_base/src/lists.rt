@@ -56,7 +56,7 @@ impl Turns {
         self.turn_by(1);
     }
 
-    // Adds `more` turns.
+    /// Adds `more` turns.
     pub(crate) fn turn_by(&mut self, more: usize)
         ensures { TurnedBy more self.old self.new }
     {

@@ -12,10 +12,10 @@ use crate::traits::{Deserialize, DeserializeBytes, Serialize, SerializeBytes, Si
 use std::alloc::Global;
 use tls_codec_wire::{Error, Sink, Source, read_exactly, write_all};
 
-/// Nothing follows it.
+// Nothing follows it.
 const NONE: u8 = 0;
 
-/// The payload follows it.
+// The payload follows it.
 const SOME: u8 = 1;
 
 impl<T: Size> Size for Option<T> {

@@ -12,28 +12,28 @@ use mls::{
 use std::alloc::{AllocError, Global};
 use tls_codec_vl::VLBytes;
 
-/// The bytes of a key, of a hash and of a group's name.
+// The bytes of a key, of a hash and of a group's name.
 const KEY: usize = 32;
 
-/// The bytes of a signature.
+// The bytes of a signature.
 const SIGNATURE: usize = 64;
 
-/// The bytes of a member's name.
+// The bytes of a member's name.
 const IDENTITY: usize = 20;
 
-/// The bytes of an encrypted `GroupInfo`.
+// The bytes of an encrypted `GroupInfo`.
 const GROUP_INFO: usize = 272;
 
-/// The bytes of an encrypted `SenderData`.
+// The bytes of an encrypted `SenderData`.
 const SENDER_DATA: usize = 28;
 
-/// `application_id`, an extension of leaves.
+// `application_id`, an extension of leaves.
 const APPLICATION_ID: ExtensionType = ExtensionType(1);
 
-/// Two extensions for private use.
+// Two extensions for private use.
 const PRIVATE_USE: [ExtensionType; 2] = [ExtensionType(0xf001), ExtensionType(0xf002)];
 
-/// The suite with X25519, AES of 128 bits and Ed25519.
+// The suite with X25519, AES of 128 bits and Ed25519.
 const SUITE: CipherSuite = CipherSuite::MLS_128_DHKEMX25519_AES128GCM_SHA256_ED25519;
 
 // A byte vector.

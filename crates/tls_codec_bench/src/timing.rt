@@ -6,16 +6,16 @@ use crate::median::{BATCHES, median};
 use std::rt::Clock;
 use std::time::Instant;
 
-/// The least nanoseconds of a batch.
+// The least nanoseconds of a batch.
 const BATCH_NANOS: u64 = 20_000_000;
 
-/// The least nanoseconds of a round. The clock is read after it.
+// The least nanoseconds of a round. The clock is read after it.
 const ROUND_NANOS: u64 = 1_000_000;
 
-/// A round has fewer calls than 2 to the power of this.
+// A round has fewer calls than 2 to the power of this.
 const MAX_DOUBLINGS: u32 = 24;
 
-/// How many rounds a batch may have. A clock that goes on ends it long before.
+// How many rounds a batch may have. A clock that goes on ends it long before.
 const MAX_ROUNDS: u32 = 1_000_000;
 
 /// The nanoseconds that a call takes: the median of the batches.

@@ -71,7 +71,7 @@ impl<T> Followed<T> {
     }
 }
 
-// Appends these bytes, and returns how many they are.
+/// Appends these bytes, and returns how many they are.
 pub(crate) fn append_bytes(bytes: &Vec<u8>, out: &mut Vec<u8>) -> Result<usize, Error>
     ensures appends { AppendsForm bytes_to_end_format (number_trees bytes.now.items) out.old.items
         out.new.items result }

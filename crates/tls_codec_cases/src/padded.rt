@@ -93,7 +93,7 @@ fn are_zeros(bytes: &[u8]) -> bool
     bytes.iter().all(|&byte| byte == 0)
 }
 
-// Appends as many zeros. `InvalidVectorLength`: more than a vector can hold.
+/// Appends as many zeros. `InvalidVectorLength`: more than a vector can hold.
 pub(crate) fn append_zeros(count: usize, out: &mut Vec<u8>) -> Result<usize, Error>
     ensures appends { AppendsForm zeros_format (Number count) out.old.items out.new.items result }
 {

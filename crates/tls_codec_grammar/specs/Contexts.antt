@@ -20,7 +20,7 @@ abbrev pub followed_length : (Tree → ℕ) → (Tree → Tree → ℕ) → Tree
 followed_length first rest (Join v vs) = fields_length first (rest v) (Join v vs)
 followed_length first rest _ = 0
 
--- the parts' errors are handed on
+-- the parts' errors are passed on
 abbrev pub followed_refuses : (Tree → Error → Type 0) → (Tree → Tree → Error → Type 0) → Tree → Error → Type 0
 followed_refuses first rest (Join v vs) e = first v e ⊎ rest v vs e
 followed_refuses first rest _ e = ⊥
@@ -66,7 +66,7 @@ abbrev pub present_length : (Tree → ℕ) → Tree → ℕ
 present_length payload (Join v Empty) = payload v
 present_length payload _ = 0
 
--- a payload is missing, or is there and should not be; the errors of one that should be are handed on
+-- a payload is missing, or is there and should not be; the errors of one that should be are passed on
 abbrev pub present_refuses : Bool → (Tree → Error → Type 0) → Tree → Error → Type 0
 present_refuses true payload (Join v Empty) e = payload v e
 present_refuses true payload Empty e = DoesNotFit e
@@ -94,7 +94,7 @@ abbrev pub chosen_length : Variants → Tree → ℕ
 chosen_length variants (Join (Number tag) vs) = (variants.parts tag).announced vs
 chosen_length variants _ = 0
 
--- the variant is another one; the errors of the right one's parts are handed on
+-- the variant is another one; the errors of the right one's parts are passed on
 abbrev pub chosen_refuses : ℕ → Variants → Tree → Error → Type 0
 chosen_refuses n variants (Join (Number tag) vs) e = ((tag ≡ n) × (variants.parts tag).refuses vs e) ⊎ ((tag ≢ n) × DoesNotFit e)
 chosen_refuses n variants _ e = ⊥

@@ -37,7 +37,7 @@ array_format k = atom (array k) (λ v. k)
 abbrev pub with_memory : Format → Format
 with_memory f = record f { lean = false }
 
--- ---- options and products: a part's errors are handed on
+-- ---- options and products: a part's errors are passed on
 
 abbrev pub option_refuses : (Tree → Error → Type 0) → Tree → Error → Type 0
 option_refuses payload (Join v Empty) e = payload v e
@@ -76,7 +76,7 @@ triple_format first second third = fields_format first (fields_format second (fi
 
 -- ---- what comes after a length field
 
--- an element's errors are handed on
+-- an element's errors are passed on
 abbrev pub content_refuses : (Tree → Error → Type 0) → Tree → Error → Type 0
 content_refuses element (Join v vs) e = element v e ⊎ content_refuses element vs e
 content_refuses element _ e = ⊥

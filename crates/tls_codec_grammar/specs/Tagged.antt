@@ -44,7 +44,7 @@ abbrev pub tagged_length : ℕ → Variants → Tree → ℕ
 tagged_length k variants (Join (Number tag) vs) = capped (k + (variants.parts tag).announced vs)
 tagged_length k variants _ = 0
 
--- the parts' errors are handed on
+-- the parts' errors are passed on
 abbrev pub tagged_refuses : Variants → Tree → Error → Type 0
 tagged_refuses variants (Join (Number tag) vs) e = (variants.parts tag).refuses vs e
 tagged_refuses variants _ e = ⊥

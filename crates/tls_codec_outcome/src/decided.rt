@@ -56,7 +56,7 @@ impl<T: ValidateKeyed, U: ValidateFor<T>, V: ValidateFor<T>> Locate for Dependen
         places.0 places.1 places.2 are };
 }
 
-/// The field of this type at a place in each context that has the key, if one begins there.
+// The field of this type at a place in each context that has the key, if one begins there.
 fn field_for<X: Keyed, T: ValidateFor<X>>(key: &X::Key, bytes: &[u8], from: usize) -> Span
     ensures { (c : Tree) → X.is_key key.now c → BeginsAt (T.format_for c) bytes.now from
         → IsFieldFrom (T.format_for c) bytes.now from result }

@@ -12,7 +12,7 @@ use tls_codec_bytes::TlsByteVec;
 use tls_codec_vl::{SecretVarBytes, VarBytes};
 use tls_codec_wire::TlsVarInt;
 
-/// What is left after a length and the bytes that it counts. Those bytes aren't checked.
+// What is left after a length and the bytes that it counts. Those bytes aren't checked.
 #[inline(always)]
 fn skip_bytes<F: LengthField>(bytes: &[u8]) -> Result<&[u8], Rejected<'_>>
     ensures validates { Validates (counted_bytes_format F.field) bytes.now result }

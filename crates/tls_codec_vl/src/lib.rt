@@ -2,8 +2,8 @@
 //! mostly made of.
 //!
 //! Their bytes are moved in bulk from any source. Those of a `Vec<u8>`, which has the same
-//! encodings, are moved in bulk if the source has them in memory. A declared length allocates
-//! nothing: memory is requested as the bytes come.
+//! encodings, are moved in bulk if the source has them in memory. A declared length requests
+//! 4,096 bytes at most: more as the bytes come.
 //!
 //! - [`var_bytes`]: [`VarBytes`], under two names: [`VLBytes`] and [`VLByteVec`]. [`names`]: what
 //!   distinguishes them.

@@ -28,7 +28,7 @@ pub enum Fill {
     Unknown,
 }
 
-/// How many bytes a source that fills buffers alone moves at once onto a vector.
+// How many bytes a source that fills buffers alone moves at once onto a vector.
 const CHUNK: usize = 4096;
 
 /// Where bytes come from: a file, a socket or a slice.

@@ -18,9 +18,10 @@ use std::{fmt, io};
 pub enum Error {
     /// A value could not be written, also if the sink failed.
     EncodingError(&'static str),
-    /// Decoding: a length or a variable-length integer isn't in its shortest form, or is above the
-    /// greatest that its field admits. Encoding: a content is longer than its length field can say. Both:
-    /// a vector would have more than `isize::MAX` bytes.
+    /// Decoding: a length or a variable-length integer isn't in its shortest form, or its field doesn't
+    /// admit it. Encoding: a content's length is none that its field admits. Both: a vector would have
+    /// more than `isize::MAX` bytes. Otherwise: a number is too large for a `TlsVarInt`, or, as a
+    /// `TryFromIntError`, for its type.
     InvalidVectorLength,
     /// No call in Rattle returns it. Callers in other languages get it if their buffer is too
     /// small.
@@ -33,9 +34,9 @@ pub enum Error {
     EndOfStream,
     /// All bytes were to be used, and a byte is left.
     TrailingData,
-    /// No variant of an enum has this tag.
+    /// No variant of an enum has this tag, or a constant or a closed enum not this number.
     UnknownValue(u64),
-    /// A number is too large for the type it was to become.
+    /// A number has more than 24 bits, and was to become a `U24`.
     LibraryError,
     /// An allocation failed.
     OutOfMemory,

@@ -12,13 +12,13 @@ use crate::error::Error;
 use crate::transfer::after_fault;
 use std::alloc::Global;
 
-/// How many bytes a vector has room for before one came.
+// How many bytes a vector has room for before one came.
 const FIRST_ROOM: usize = 4096;
 
 /// A vector of the next `len` bytes.
 ///
 /// Room for bytes at hand is requested once. Else it is requested as they come: for 4,096 at first,
-/// and then for as many as came or are at hand. So a length without its bytes costs nothing.
+/// and then for as many as came or are at hand. So a length without its bytes costs 4,096 bytes at most.
 /// `InvalidVectorLength`: `len` is above `isize::MAX`, and nothing was taken. `OutOfMemory`: the
 /// source or the vector had none. Every other error, and interruptions, are as in
 /// [`read_exactly`](crate::read_exactly).

@@ -150,11 +150,12 @@ pub fn write_all<W: Sink>(sink: &mut W, bytes: &[u8]) -> Result<(), Error>
     Ok(())
 }
 
-// How many interruptions in a row there are after a fault that is tried again. Else the error that it is:
-// `failed`, unless it ran out of memory.
+/// How many interruptions in a row there are after a fault that is tried again. Else the error that it is:
+/// `failed`, unless it ran out of memory.
 #[inline(always)]
 pub(crate) fn after_fault(fault: Fault, retries: u8, failed: Error) -> Result<u8, Error>
-    ensures ok { IfOk result (λ next. (fault ≡ Interrupted) × (retries < 16) × (next ≡ retries + 1)) }
+    ensures ok { IfOk result
+        (λ next. (fault ≡ Interrupted) × (retries < 16) × (next ≡ retries + 1)) }
     ensures err { IfErr result (ErrorOfFault fault retries failed) }
 {
     match fault {

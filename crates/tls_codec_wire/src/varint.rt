@@ -25,7 +25,7 @@ impl TlsVarInt {
         self.number
     }
 
-    // The value of a number that fits.
+    /// The value of a number that fits.
     pub(crate) fn new(number: u64) -> TlsVarInt
         requires { number < 2 ^ 62 }
         ensures { number_of result ≡ number }

@@ -4,7 +4,7 @@ use crate::walk::line::{Label, Line};
 use jiff::Timestamp;
 use std::alloc::{AllocError, Global};
 
-/// The fields whose bytes may be a text.
+// The fields whose bytes may be a text.
 static TEXTS: [&str; 3] = ["identity", "application_id", "label"];
 
 /// The text that a field's bytes are, if it may be one and they can be printed.

@@ -10,7 +10,7 @@ pub const LONGEST: usize = 16_777_216;
 /// The most bytes that the text of an input has: eight for each of the messages'.
 pub const LONGEST_TEXT: usize = 134_217_728;
 
-/// The most bytes that are read in one call.
+// The most bytes that are read in one call.
 const PIECE: usize = 4096;
 
 /// Why an input isn't read.

@@ -18,13 +18,13 @@ use std::rt::Files;
 use std::{env, fs};
 use tlsgen_syntax::syntax::Item;
 
-/// Each message was shown.
+// Each message was shown.
 const ALL: u8 = 0;
-/// A field was rejected.
+// A field was rejected.
 const REJECTED: u8 = 1;
-/// The arguments or the input can't be read.
+// The arguments or the input can't be read.
 const UNREAD: u8 = 2;
-/// Memory or the output failed.
+// Memory or the output failed.
 const FAILED: u8 = 3;
 
 /// All of `main`.

@@ -62,7 +62,7 @@ fn main(rt: HostRuntime) -> anyhow::Result<ExitCode> {
     files::print(&rt, written.as_slice())
 }
 
-/// The plan of the crate that the words ask for, or prints why there is none.
+// The plan of the crate that the words ask for, or prints why there is none.
 fn planned<R: Eprint + AllocGlobal + Files>(
     rt: &R,
     texts: &mut Texts,
@@ -83,7 +83,7 @@ fn planned<R: Eprint + AllocGlobal + Files>(
     plan(rt, texts)
 }
 
-/// Returns whether a crate can have a name, or prints that it can't.
+// Returns whether a crate can have a name, or prints that it can't.
 fn is_named<R: Eprint>(rt: &R, word: &str, name: &str) -> anyhow::Result<bool> {
     if is_crate_name(name) {
         return Ok(true);
@@ -94,7 +94,7 @@ fn is_named<R: Eprint>(rt: &R, word: &str, name: &str) -> anyhow::Result<bool> {
     Ok(false)
 }
 
-/// Returns whether the folders that are given have names, or prints which hasn't.
+// Returns whether the folders that are given have names, or prints which hasn't.
 fn are_folders<R: Eprint>(rt: &R, matches: &ArgMatches<'_>) -> anyhow::Result<bool> {
     for word in ["to", "compare"] {
         if matches.get_str(word) == Some("") {
@@ -105,7 +105,7 @@ fn are_folders<R: Eprint>(rt: &R, matches: &ArgMatches<'_>) -> anyhow::Result<bo
     Ok(true)
 }
 
-/// Adds the texts of other crates, each given as `NAME=FILE` or `NAME=FILE,NOTES`. Returns whether all were read.
+// Adds the texts of other crates, each given as `NAME=FILE` or `NAME=FILE,NOTES`. Returns whether all were read.
 fn add_others<R: Eprint + AllocGlobal + Files>(
     rt: &R,
     texts: &mut Texts,
@@ -131,7 +131,7 @@ fn add_others<R: Eprint + AllocGlobal + Files>(
     Ok(true)
 }
 
-/// Adds a file's text and its notes, if there are any, or prints why one can't be read.
+// Adds a file's text and its notes, if there are any, or prints why one can't be read.
 fn add<R: Eprint + AllocGlobal + Files>(
     rt: &R,
     texts: &mut Texts,
@@ -151,7 +151,7 @@ fn add<R: Eprint + AllocGlobal + Files>(
     }
 }
 
-/// Adds the notes of the text that was added last, or prints why they can't be read.
+// Adds the notes of the text that was added last, or prints why they can't be read.
 fn add_notes<R: Eprint + AllocGlobal + Files>(
     rt: &R,
     texts: &mut Texts,
@@ -167,7 +167,7 @@ fn add_notes<R: Eprint + AllocGlobal + Files>(
     Ok(true)
 }
 
-/// The text of a file, or prints why it can't be read.
+// The text of a file, or prints why it can't be read.
 fn read<R: Eprint + AllocGlobal + Files>(rt: &R, path: &str) -> anyhow::Result<Option<String>> {
     match fs::read_to_string(rt, path) {
         Ok(text) => Ok(Some(text)),
@@ -178,12 +178,12 @@ fn read<R: Eprint + AllocGlobal + Files>(rt: &R, path: &str) -> anyhow::Result<O
     }
 }
 
-/// A text without a mark of the byte order, which editors may put first.
+// A text without a mark of the byte order, which editors may put first.
 fn without_mark(text: &str) -> &str {
     text.strip_prefix('\u{feff}').unwrap_or(text)
 }
 
-/// The plan of the crate, or prints why a text is rejected.
+// The plan of the crate, or prints why a text is rejected.
 fn plan<R: Eprint + AllocGlobal>(rt: &R, texts: &mut Texts) -> anyhow::Result<Option<Plan>> {
     match texts.plan(rt.alloc()) {
         Ok(plan) => Ok(Some(plan)),

@@ -8,8 +8,8 @@ use crate::vocabulary::{
 use std::alloc::{AllocError, Global};
 use std::collections::BTreeSet;
 
-/// The lines of a text and their words, without its comments and without the names of fields after
-/// a dot.
+// The lines of a text and their words, without its comments and without the names of fields after
+// a dot.
 #[derive(Drop)]
 struct Text<'a> {
     lines: Vec<&'a str>,

@@ -6,7 +6,7 @@ use crate::variant_forms::VariantForm;
 use std::alloc::{AllocError, Global};
 use tlsgen_model::plan::Variant;
 
-/// How two texts become one.
+// How two texts become one.
 #[derive(Clone, Copy)]
 struct Pair {
     open: &'static str,

@@ -31,7 +31,7 @@ pub fn first_difference(ours: &[u8], theirs: &[u8]) -> Option<usize>
     }
 }
 
-/// The line, from 1, on which the byte before the last `left` bytes of a text is.
+// The line, from 1, on which the byte before the last `left` bytes of a text is.
 fn line_before(text: &[u8], left: usize) -> usize {
     let taken = text.len().saturating_sub(left);
     let mut line = 1usize;
@@ -43,7 +43,7 @@ fn line_before(text: &[u8], left: usize) -> usize {
     line
 }
 
-/// The first byte that is no layout, and what is after it.
+// The first byte that is no layout, and what is after it.
 fn next_byte(text: &[u8]) -> Option<(u8, &[u8])>
     ensures next { MatchOption result (significant text.now ≡ [])
         (λ found. significant text.now ≡ found.0 ∷ significant found.1.now) }
@@ -59,7 +59,7 @@ fn next_byte(text: &[u8]) -> Option<(u8, &[u8])>
     None
 }
 
-/// Whether a byte is layout before these: a blank, or a comma before a closing bracket.
+// Whether a byte is layout before these: a blank, or a comma before a closing bracket.
 fn is_layout_before(byte: u8, after: &[u8]) -> bool
     ensures { result ≡ is_layout byte after.now }
 {
@@ -78,7 +78,7 @@ fn closing(byte: u8) -> bool
     byte == b')' || byte == b']' || byte == b'}' || byte == b'>'
 }
 
-/// Whether a closing bracket comes next, after any blanks.
+// Whether a closing bracket comes next, after any blanks.
 fn closing_is_next(text: &[u8]) -> bool
     ensures { result ≡ closes text.now }
 {

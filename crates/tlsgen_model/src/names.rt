@@ -65,7 +65,7 @@ pub fn constant_name(alloc: Global, name: &str) -> Result<String, AllocError>
     capital_lettered(alloc, out)
 }
 
-/// The name, after an `x` if it doesn't begin with a letter.
+// The name, after an `x` if it doesn't begin with a letter.
 fn lettered(alloc: Global, name: String) -> Result<String, AllocError>
     ensures { IfOk result (λ name. BeginsWithLetter (string_bytes name)) }
 {
@@ -75,7 +75,7 @@ fn lettered(alloc: Global, name: String) -> Result<String, AllocError>
     format!(in alloc; "x{name}")
 }
 
-/// The name, after a `V` if it doesn't begin with a letter.
+// The name, after a `V` if it doesn't begin with a letter.
 fn capital_lettered(alloc: Global, name: String) -> Result<String, AllocError>
     ensures { IfOk result (λ name. BeginsWithLetter (string_bytes name)) }
 {

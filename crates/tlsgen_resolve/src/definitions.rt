@@ -6,7 +6,7 @@ use std::collections::BTreeMap;
 use tlsgen_model::names::module_name;
 use tlsgen_syntax::syntax::{File, Item};
 
-/// A definition's names.
+// A definition's names.
 #[derive(Drop)]
 struct Spelled {
     file: usize,

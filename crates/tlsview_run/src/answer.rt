@@ -34,7 +34,7 @@ pub fn answer<R: Source, W: Sink>(
     }
 }
 
-/// The argument in the words of the process.
+// The argument in the words of the process.
 fn argument(words: io::Result<Args>) -> Result<String, ViewFault>
     ensures { MatchResult result
         (λ kind. argument_of words ≡ Ok (string_bytes kind))
@@ -52,7 +52,7 @@ fn argument(words: io::Result<Args>) -> Result<String, ViewFault>
     }
 }
 
-/// The word after the program's name, if it is the only one.
+// The word after the program's name, if it is the only one.
 fn only_argument(mut words: Args) -> Option<String>
     ensures { MatchOption result
         (argument_in (map string_bytes (into_iter_items words)) ≡ Err ViewFault.Kind)
@@ -66,7 +66,7 @@ fn only_argument(mut words: Args) -> Option<String>
     }
 }
 
-/// Sends the line of a run that fails, and returns the exit status.
+// Sends the line of a run that fails, and returns the exit status.
 fn end<W: Sink>(outcome: Result<bool, ViewFault>, out: &mut W) -> u8
     ensures told { TellsLine W.Sink out.old out.new (line_of outcome) }
     ensures status { result ≡ status_of outcome }

@@ -47,7 +47,7 @@ pub fn run<R: Source, W: Sink>(
     }
 }
 
-/// The same, by a type.
+// The same, by a type.
 fn run_as<T: Show, R: Source, W: Sink>(
     alloc: Global,
     input: &mut R,

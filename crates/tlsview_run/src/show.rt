@@ -153,7 +153,7 @@ impl Show for Log {
     }
 }
 
-/// Appends the texts of three parts, with commas between them, in parentheses.
+// Appends the texts of three parts, with commas between them, in parentheses.
 fn push_triple<T: Show, U: Show, V: Show>(
     alloc: Global,
     out: &mut String,
@@ -177,7 +177,7 @@ fn push_triple<T: Show, U: Show, V: Show>(
     out.push(')')
 }
 
-/// Appends the text of a list.
+// Appends the text of a list.
 fn push_list<T: Show>(alloc: Global, out: &mut String, elements: &[T]) -> Result<(), AllocError>
     ensures { OnOk result
         (string_bytes out.new
@@ -189,7 +189,7 @@ fn push_list<T: Show>(alloc: Global, out: &mut String, elements: &[T]) -> Result
     out.push(']')
 }
 
-/// Appends the texts of some elements, with commas between them.
+// Appends the texts of some elements, with commas between them.
 fn push_elements<T: Show>(alloc: Global, out: &mut String, elements: &[T]) -> Result<(), AllocError>
     ensures { OnOk result
         (string_bytes out.new

@@ -52,8 +52,8 @@ pub fn view_of<T: Show>(alloc: Global, bytes: &[u8]) -> Result<View, ViewFault>
     }
 }
 
-/// The two paths accept the same bytes, so one that rejects what the other accepts is out of
-/// memory.
+// The two paths accept the same bytes, so one that rejects what the other accepts is out of
+// memory.
 fn no_memory(_error: Error) -> ViewFault
     requires { _error ≡ OutOfMemory }
     ensures { result ≡ ViewFault.Memory }
@@ -61,7 +61,7 @@ fn no_memory(_error: Error) -> ViewFault
     ViewFault::Memory
 }
 
-/// Appends the line of a path that reads a value.
+// Appends the line of a path that reads a value.
 fn show_value<T: Show>(
     alloc: Global,
     out: &mut String,
@@ -79,7 +79,7 @@ fn show_value<T: Show>(
     out.push_str("\n")
 }
 
-/// Appends the line of a path that rejects the bytes. An `OutOfMemory` has no line.
+// Appends the line of a path that rejects the bytes. An `OutOfMemory` has no line.
 fn show_refusal(out: &mut String, path: &str, error: Error) -> Result<(), ViewFault>
     ensures line { OnOk result (string_bytes out.new
         ≡ string_bytes out.old ++ refused_line path.now (name_of error)) }
@@ -94,10 +94,10 @@ fn show_refusal(out: &mut String, path: &str, error: Error) -> Result<(), ViewFa
     Ok(())
 }
 
-/// Appends the line of the value's shortest form.
-///
-/// A value that was read has a shortest form, no longer than what was read. So an encoder fails
-/// only if memory runs out.
+// Appends the line of the value's shortest form.
+//
+// A value that was read has a shortest form, no longer than what was read. So an encoder fails
+// only if memory runs out.
 fn show_least<T: Show>(alloc: Global, out: &mut String, value: &T) -> Result<(), AllocError>
     ensures { OnOk result
         (AppendsLeast T.format.spells (T.plain value.now) (string_bytes out.old)

@@ -10,10 +10,10 @@ use hex::FromHexError;
 use std::alloc::{AllocError, Global};
 use tls_codec::{Fault, MAX_INTERRUPTIONS, Source};
 
-/// The greatest number of bytes that an input may have.
+// The greatest number of bytes that an input may have.
 const LONGEST: usize = 1_048_576;
 
-/// The most bytes that are requested in one call.
+// The most bytes that are requested in one call.
 const PIECE: usize = 4096;
 
 /// Reads the input to its end. Of an input that is too long it takes one byte more than an input
@@ -36,7 +36,7 @@ pub fn read_text<R: Source>(alloc: Global, input: &mut R) -> Result<Vec<u8>, Inp
     Err(InputFault::Long)
 }
 
-/// Pulls once, and again after an interruption, up to 16 times in a row.
+// Pulls once, and again after an interruption, up to 16 times in a row.
 fn next_piece<R: Source>(input: &mut R, into: &mut [u8]) -> Result<usize, InputFault>
     ensures bound { IfOk result (λ count. count ≤ length into.new) }
     ensures gave { IfOk result (λ count. R.given input.old (take count into.new) input.new) }
@@ -70,9 +70,9 @@ pub fn decode(alloc: Global, text: &[u8]) -> Result<Vec<u8>, InputFault>
     }
 }
 
-/// The text without its tabs, line feeds, carriage returns and spaces.
-///
-/// It is copied whole first, by one request for memory: a `collect` goes on if a request is refused.
+// The text without its tabs, line feeds, carriage returns and spaces.
+//
+// It is copied whole first, by one request for memory: a `collect` goes on if a request is refused.
 fn without_blanks(alloc: Global, text: &[u8]) -> Result<Vec<u8>, AllocError>
     ensures { IfOk result (λ digits. digits.items ≡ digits_in text.now) }
 {

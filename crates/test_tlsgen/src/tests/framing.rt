@@ -1,6 +1,6 @@
 // MLS's framing (RFC 9420, section 6), to be appended to `inputs::MLS`.
 
-// As the RFC prints it.
+/// As the RFC prints it.
 pub static FRAMING_RFC: &str = "
 // ---- 6.1, 6.2, as in the RFC: selects that depend on earlier messages' tags. FramedContentAuthData is no message of its own;
 // where it is a field, what depends on the tag goes into the tag's cases.
@@ -84,7 +84,7 @@ struct {
 } MLSMessage;
 ";
 
-// PublicMessage and MLSMessage with the same bytes, by selects on tags of their own structs alone.
+/// PublicMessage and MLSMessage with the same bytes, by selects on tags of their own structs alone.
 pub static FRAMING: &str = "
 // ---- 6.1, 6.2: PublicMessage and MLSMessage, whose later fields depend on earlier tags: what depends is in the cases, and
 // so is what is between. The bytes are those of the RFC:

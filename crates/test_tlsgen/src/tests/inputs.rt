@@ -1,6 +1,6 @@
 // Texts of the language: messages of TLS 1.3 and of MLS, and one of each shape.
 
-// One of each shape.
+/// One of each shape.
 pub static SHAPES: &str = "opaque Key<V>;
 enum { reserved(0), mls10(1), draft(2), (65535) } Version;
 enum { reserved(0), basic(1), x509(2), both(3), anonymous(4), (65535) } CredentialType;
@@ -74,7 +74,7 @@ enum { update_not_requested(0), update_requested(1), (255) } KeyUpdateRequest;
 struct { KeyUpdateRequest request_update; } KeyUpdate;
 ";
 
-// RFC 9420, without its framing.
+/// RFC 9420, without its framing.
 pub static MLS: &str =
     "// Messages of MLS (RFC 9420), in the presentation language of TLS (RFC 8446, section 3).
 // A line `A B;` gives the type A a second name, as in the RFC. Where the RFC has a number with a registry

@@ -3,7 +3,7 @@ use super::shown::show;
 use super::{expect_in_refusal, made, refusal, same_at};
 use std::test::Fail;
 
-// Some of Certificate Transparency (RFC 6962, sections 3.2 and 3.5), with RFC 5246, section 4.7.
+/// Some of Certificate Transparency (RFC 6962, sections 3.2 and 3.5), with RFC 5246, section 4.7.
 pub static TIMESTAMPS: &str =
     "struct { uint16 algorithm; opaque signature<0..2^16-1>; } DigitallySigned;
 enum { x509_entry(0), precert_entry(1), (65535) } LogEntryType;

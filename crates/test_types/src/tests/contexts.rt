@@ -16,7 +16,7 @@ use tls_codec::{
 
 const DOES_NOT_FIT: Error = Error::EncodingError("value does not fit its context");
 
-/// The context is 1.
+// The context is 1.
 #[derive(Drop)]
 struct IsOne;
 

@@ -9,9 +9,9 @@ use std::io::{ErrorKind, Read, Write};
 use std::marker::Model;
 use tls_codec_wire::device::{Fault, Sink, Source};
 
-// A device fails its first call with the fault `first`, if it has one. Then it moves `bytes` bytes,
-// one a call, and `interruptions` interruptions come before each. After them it treats each call
-// the same: a fault, or no byte.
+/// A device fails its first call with the fault `first`, if it has one. Then it moves `bytes` bytes,
+/// one a call, and `interruptions` interruptions come before each. After them it treats each call
+/// the same: a fault, or no byte.
 #[derive(Clone, Copy)]
 pub struct Plan {
     pub first: Option<Fault>,
@@ -20,7 +20,7 @@ pub struct Plan {
     pub after: Option<Fault>,
 }
 
-// It has no byte.
+/// It has no byte.
 pub const ENDED: Plan = Plan {
     first: None,
     bytes: 0,
@@ -28,7 +28,7 @@ pub const ENDED: Plan = Plan {
     after: None,
 };
 
-// How far a plan has come.
+/// How far a plan has come.
 #[derive(Drop)]
 pub struct Progress {
     plan: Plan,
@@ -101,7 +101,7 @@ impl Progress {
     }
 }
 
-// Gives the byte 5 each time.
+/// Gives the byte 5 each time.
 #[derive(Drop)]
 pub struct Fives {
     pub progress: Progress,
@@ -140,7 +140,7 @@ impl Source for Fives {
     ghost no_count_falls = { λ a xs b p. p };
 }
 
-// Keeps the bytes that it took.
+/// Keeps the bytes that it took.
 #[derive(Drop)]
 pub struct Keeper {
     pub progress: Progress,
@@ -178,7 +178,7 @@ impl Sink for Keeper {
     }
 }
 
-// Fails at each call, by an error of this kind.
+/// Fails at each call, by an error of this kind.
 #[derive(Drop)]
 pub struct Failing {
     pub kind: ErrorKind,
@@ -200,7 +200,7 @@ impl Write for Failing {
     }
 }
 
-// Fails at its first calls, by an error of each of these kinds, and then gives the byte 5 each time.
+/// Fails at its first calls, by an error of each of these kinds, and then gives the byte 5 each time.
 #[derive(Drop)]
 pub struct FailingFirst<'a> {
     pub kinds: &'a [ErrorKind],

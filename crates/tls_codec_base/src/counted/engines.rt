@@ -15,14 +15,14 @@ use std::alloc::Global;
 use tls_codec_grammar::length_field::{LengthField, fill_gap, open_gap, write_length};
 use tls_codec_wire::{Error, Sink, Source};
 
-/// How many bytes an element likely has, if elements have no one width.
+// How many bytes an element likely has, if elements have no one width.
 const LIKELY_LENGTH: usize = 64;
 
-/// For how many bytes of elements room is requested at once, if they have no one width: those of no bytes
-/// need none.
+// For how many bytes of elements room is requested at once, if they have no one width: those of no bytes
+// need none.
 const MAX_ROOM: usize = 1 << 16;
 
-/// A gap for a length is left only after this many bytes or fewer.
+// A gap for a length is left only after this many bytes or fewer.
 const MAX_BEFORE_GAP: usize = 1 << 61;
 
 /// What [`announced_len`](crate::counted::announced_len) does.
@@ -107,10 +107,10 @@ fn append_after_gap<F: LengthField, T, K: ElementWriter<T>>(
     Ok(out.len() - at)
 }
 
-// How wide the length of `count` elements is likely to be after `at` bytes. It is a guess, and right if
-// the elements have one width.
-//
-// If the gap itself might make the vector too long, it is 0.
+/// How wide the length of `count` elements is likely to be after `at` bytes. It is a guess, and right if
+/// the elements have one width.
+///
+/// If the gap itself might make the vector too long, it is 0.
 pub(crate) fn likely_width<F: LengthField, T, K: ElementCoding<T>>(
     coding: &K,
     at: usize,
@@ -131,8 +131,8 @@ pub(crate) fn likely_width<F: LengthField, T, K: ElementCoding<T>>(
     width.min(8)
 }
 
-// How much room is requested at once for these elements, after `at` bytes: just as much as they have, or
-// a guess that is never large.
+/// How much room is requested at once for these elements, after `at` bytes: just as much as they have, or
+/// a guess that is never large.
 pub(crate) fn bytes_to_reserve<T, K: ElementCoding<T>>(
     coding: &K,
     at: usize,

@@ -16,7 +16,7 @@ use tls_codec_wire::{Error, Source};
 
 /// The elements that fill the first `length` bytes exactly, and the bytes after those.
 ///
-/// Each element is read from all that is left of the bytes. Its own error is handed on.
+/// Each element is read from all that is left of the bytes. Its own error is passed on.
 /// `DecodingError("vector element consumed 0 bytes")`: an element's encoding is empty.
 /// `DecodingError("elements do not fill the declared length")`: an element passes the declared end.
 /// If `length` is 0, there is no element, no turn and no need of memory.
@@ -42,7 +42,7 @@ pub fn from_slice<'a, T: DeserializeBytes>(
 
 /// The elements that fill the next `length` bytes exactly. Only these bytes are taken.
 ///
-/// Each element is read from a source that ends where the list does. Its own error is handed on; if
+/// Each element is read from a source that ends where the list does. Its own error is passed on; if
 /// it passes the declared end, that is `EndOfStream`.
 /// `DecodingError("vector element consumed 0 bytes")`: an element's encoding is empty. If `length`
 /// is 0, there is no element, no turn and no need of memory, and the source isn't asked.

@@ -26,9 +26,9 @@ pub(crate) trait HasDigits<const K: usize>: Drop {
         ensures { number result ≡ value digits.now };
 }
 
-// Sends the numbers' digits in a row, and returns how many bytes that is, saturated at `usize::MAX`.
-//
-// A width is at most that of `u64`, so that memory can hold an array of a group's digits.
+/// Sends the numbers' digits in a row, and returns how many bytes that is, saturated at `usize::MAX`.
+///
+/// A width is at most that of `u64`, so that memory can hold an array of a group's digits.
 pub(crate) fn send_run<T: HasDigits<K>, W: Sink, const K: usize>(
     numbers: &[T],
     sink: &mut W,

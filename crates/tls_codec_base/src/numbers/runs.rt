@@ -18,8 +18,8 @@ use tls_codec_grammar::opaque::see_bytes;
 use tls_codec_wire::gather::gather;
 use tls_codec_wire::{Bounded, Error, Source};
 
-// The digits of all numbers of K bytes that a source may still give. `None` if whole numbers can't
-// fill that; then nothing is taken.
+/// The digits of all numbers of K bytes that a source may still give. `None` if whole numbers can't
+/// fill that; then nothing is taken.
 pub(crate) fn read_run<R: Source, const K: usize>(
     alloc: Global,
     within: &mut Bounded<R>,
@@ -111,7 +111,7 @@ fn numbers_of<T: HasDigits<K>, const K: usize>(
     Ok(numbers)
 }
 
-// The numbers that all of these bytes are the digits of; none if there are no bytes, or one is left over.
+/// The numbers that all of these bytes are the digits of; none if there are no bytes, or one is left over.
 pub(crate) fn elements_of<T: HasDigits<K>, const K: usize>(
     alloc: Global,
     bytes: &[u8],
@@ -128,7 +128,7 @@ pub(crate) fn elements_of<T: HasDigits<K>, const K: usize>(
     Ok(Some(numbers_of::<T, K>(alloc, bytes)?))
 }
 
-// The numbers that a source may still give. `None` if they don't fill that; then nothing is taken.
+/// The numbers that a source may still give. `None` if they don't fill that; then nothing is taken.
 pub(crate) fn read_elements<T: HasDigits<K>, R: Source, const K: usize>(
     alloc: Global,
     within: &mut Bounded<R>,

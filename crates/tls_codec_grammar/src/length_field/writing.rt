@@ -11,7 +11,7 @@ use std::alloc::AllocError;
 use tls_codec_wire::vlen::insert_bytes;
 use tls_codec_wire::{Error, Sink, write_all};
 
-/// How many bytes a vector that grows has room for at least.
+// How many bytes a vector that grows has room for at least.
 const LEAST_ROOM: usize = 8;
 
 /// Sends a length, and returns how many bytes it has.
@@ -56,8 +56,8 @@ pub fn open_gap(out: &mut Vec<u8>, width: usize, room: usize) -> Result<(), Allo
     append_few(out, &empty[..width])
 }
 
-// Appends a few bytes and then others, and requests room once. One, two or four bytes are stored
-// without a call.
+/// Appends a few bytes and then others, and requests room once. One, two or four bytes are stored
+/// without a call.
 #[inline(always)]
 pub(crate) fn append_both(out: &mut Vec<u8>, few: &[u8], bytes: &[u8]) -> Result<(), AllocError>
     ensures { out.new.items

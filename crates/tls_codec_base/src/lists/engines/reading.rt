@@ -15,7 +15,7 @@ use crate::rejections::{NO_BYTES, NOT_FILLED};
 use std::alloc::{AllocError, Global};
 use tls_codec_wire::{Bounded, Error, Source};
 
-/// How many elements a list has room for once it has one.
+// How many elements a list has room for once it has one.
 const FIRST_ROOM: usize = 4;
 
 /// What [`from_slice`](crate::lists::from_slice) does.

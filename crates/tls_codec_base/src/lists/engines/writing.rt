@@ -105,7 +105,7 @@ pub(crate) fn append<T, K: ElementWriter<T>>(
     }
 }
 
-// The same at once. `None` if such elements are appended one by one; then nothing is appended.
+/// The same at once. `None` if such elements are appended one by one; then nothing is appended.
 pub(crate) fn append_at_once<T, K: ElementCoding<T>>(
     coding: &K,
     out: &mut Vec<u8>,
