@@ -3,7 +3,7 @@ use crate::aad::PrivateContentAad;
 use crate::chained::Chained;
 use crate::rewrite::rewrite;
 use std::test::Fail;
-use tls_codec::{Error, Serialize, Size, VLBytes};
+use tls_codec::{Deserialize, Error, Serialize, Size, VLBytes};
 
 #[test]
 fn an_extension_is_rewritten(rt: HostRuntime) -> Result<(), Fail> {
@@ -32,7 +32,7 @@ fn an_extension_is_rewritten(rt: HostRuntime) -> Result<(), Fail> {
 }
 
 #[test]
-fn four_fields_are_written_in_a_row(rt: HostRuntime) -> Result<(), Fail> {
+fn four_fields_in_a_row(rt: HostRuntime) -> Result<(), Fail> {
     let alloc = rt.alloc();
     let aad = PrivateContentAad {
         group_id: VLBytes::from_array(alloc, &[0x0a, 0x14])?,
@@ -46,5 +46,10 @@ fn four_fields_are_written_in_a_row(rt: HostRuntime) -> Result<(), Fail> {
         aad.tls_serialize_detached(alloc)?.as_slice(),
         bytes.as_slice()
     );
+    let read = PrivateContentAad::tls_deserialize_exact(alloc, &bytes)?;
+    assert_eq!(rt; read.group_id.as_slice(), [0x0a, 0x14].as_slice());
+    assert_eq!(rt; read.epoch, 5);
+    assert_eq!(rt; read.content_type, 1);
+    assert_eq!(rt; read.authenticated_data.as_slice(), [].as_slice());
     Ok(())
 }
