@@ -1,6 +1,7 @@
 #!/usr/bin/env python3
 """Lists words of this project's dialect, with what to write in their place: in the pages, those at the top, docs/*.md and callers', and in
-the comments of the scripts, of what callers elsewhere are given, and of all crates, but those of KEPT.
+the comments of the scripts, of what callers elsewhere are given, and of src/ of all crates. It doesn't read their specs/, proofs/ and
+edits. KEPT has the words that stay.
 
 Words in `code`, in blocks and in links' targets don't count. Prints a line for each; last 'N passed, N failed', which counts files; the
 exit status is 1 if one failed. To find more, add a line to WORDS.
