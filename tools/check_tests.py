@@ -43,7 +43,7 @@ def unread(files: Files) -> Iterator[str]:
 
 
 def wrong_count(crate: str, count: int, said: list[str]) -> Iterator[str]:
-    """What is wrong with the lines of a crate that has so many tests, which say these numbers."""
+    """What is wrong with the lines of a crate that has this count of tests, which say these numbers."""
     if not said:
         yield f"{crate} {count}: this line is missing in tools/data/tests.txt"
     elif len(said) > 1 or not said[0].isdecimal():

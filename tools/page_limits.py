@@ -153,7 +153,7 @@ def day_findings(section: str) -> tuple[list[str], int]:
 
 
 def in_block(kind: str, count: int) -> str:
-    """A page with a block of this kind that is no quote and has so many words, where a stroke is none."""
+    """A page with a block of this kind that is no quote and has this count of words. A stroke is none."""
     return f"word\n\n<!-- not quoted -->\n```{kind}\n{'word | `two words` ' * (count // 2)}{'word' * (count % 2)}\n```\n"
 
 
