@@ -4,13 +4,16 @@
 Fewer fail: no test goes unseen. More fail too, with the line to write, as do a crate without a line and a line without a crate. And a line
 `mod NAME;` names each file that has tests in the file above it, and that one too, up to lib.rt or main.rt.
 
-Before that it tries itself on crates with one fault each. Prints what isn't so; last 'N passed, N failed', a crate each, and one for what
-was tried.
+Before that it tries itself on crates with one fault each, and tools/lib/counts.sh, by which .ci/run and quick compare what scripts count,
+on counts. Prints what isn't so; last 'N passed, N failed', a crate each, and one for what was tried.
 """
 from __future__ import annotations
 
+import pathlib
 import re
+import subprocess
 import sys
+import tempfile
 from collections.abc import Iterator
 
 from lib.libraries import CRATES, TOP
@@ -95,9 +98,30 @@ def selftest() -> list[str]:
     missed = [f"selftest: not found: {fault}" for fault, found in planted.items() if not any(found.values())]
     return missed + [f"selftest: found: {it}" for lines in findings(SOUND, LINE).values() for it in lines]
 
+# Lines of counts, and what counts.sh says of scripts that count this much.
+COUNTS = "# three 3\none 3\ntwo 3 5\ntwice 3\ntwice 3\nnone\n"
+TOO_FEW, MORE = "FAILED: {} counts {}, and must count at least 3", "raise {} to {} in tools/data/counts.txt"
+NO_LINE = "FAILED: tools/data/counts.txt has not one line for {}"
+COMPARED = {
+    ("one", 2): TOO_FEW, ("one", 3): "", ("one", 4): MORE, ("two", 2): TOO_FEW, ("two", 3): "", ("two", 5): "", ("two", 6): MORE,
+    ("on", 3): NO_LINE, ("three", 3): NO_LINE, ("twice", 3): NO_LINE, ("none", 3): NO_LINE,
+}
+
+
+def wrong_comparisons() -> list[str]:
+    """The counts of which counts.sh doesn't say what COMPARED has."""
+    calls = "".join(f'echo "{name} {count}: $(compare {name} {count})"\n' for name, count in COMPARED)
+    with tempfile.TemporaryDirectory() as room:
+        pathlib.Path(room, "tools/data").mkdir(parents=True)
+        pathlib.Path(room, "tools/data/counts.txt").write_text(COUNTS)
+        words = ["bash", "-c", f'fail() {{ echo "FAILED: $1"; }}\n. "$1"\n{calls}', "bash", TOP / "tools/lib/counts.sh"]
+        said = subprocess.run(words, cwd=room, capture_output=True, text=True, check=False).stdout.splitlines()
+    wanted = [f"{name} {count}: {form.format(name, count)}" for (name, count), form in COMPARED.items()]
+    return [f"selftest: counts.sh doesn't say {it!r}" for it in wanted if it not in said]
+
 
 def main() -> int:
-    results = {"selftest": selftest()} | findings(files_of_crates(), LINES.read_text(encoding="utf-8"))
+    results = {"selftest": selftest() + wrong_comparisons()} | findings(files_of_crates(), LINES.read_text(encoding="utf-8"))
     print("".join(f"{line}\n" for lines in results.values() for line in lines), end="")
     failed = sum(map(bool, results.values()))
     print(f"{len(results) - failed} passed, {failed} failed")

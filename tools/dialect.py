@@ -18,7 +18,7 @@ from collections.abc import Iterator
 from lib.libraries import CALLER_PAGES, PAGES, TOP
 
 CALLERS = ("c/**/*.[ch]", "c/**/*.cc", "rust/**/*.rs", "python/**/*.py")
-SCRIPTS = (".ci/run", "tools/*", "tools/lib/**/*.py", "tools/data/*")
+SCRIPTS = (".ci/run", "tools/*", "tools/lib/**/*.py", "tools/lib/*.sh", "tools/data/*")
 SOURCES = (*SCRIPTS, *CALLERS, "crates/*/src/**/*.rt")
 # Words that stay, by their file and line. Both come from crates/tlsgen/data, and another text there has `tls13`, `mls_tree` and all crates
 # above them written and proved anew: they go with the next change of these texts.
