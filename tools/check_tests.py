@@ -4,8 +4,8 @@
 Fewer fail: no test goes unseen. More fail too, with the line to write, as do a crate without a line and a line without a crate. And a line
 `mod NAME;` names each file that has tests in the file above it, and that one too, up to lib.rt or main.rt.
 
-Before that it tries itself on crates with one fault each, and tools/lib/counts.sh, by which .ci/run and quick compare what scripts count,
-on counts. Prints what isn't so; last 'N passed, N failed', a crate each, and one for what was tried.
+Before that it tries itself on crates with one fault each, and on counts tools/lib/counts.sh, with which .ci/run and quick compare what
+scripts count. Prints what isn't so; last 'N passed, N failed', a crate each, and one for what was tried.
 """
 from __future__ import annotations
 
@@ -109,7 +109,7 @@ COMPARED = {
 
 
 def wrong_comparisons() -> list[str]:
-    """The counts of which counts.sh doesn't say what COMPARED has."""
+    """What COMPARED has, and counts.sh doesn't say."""
     calls = "".join(f'echo "{name} {count}: $(compare {name} {count})"\n' for name, count in COMPARED)
     with tempfile.TemporaryDirectory() as room:
         pathlib.Path(room, "tools/data").mkdir(parents=True)
