@@ -4,8 +4,8 @@
 - All pages except docs/DECISIONS.md have at most MAX_WORDS words outside of their blocks: what is between blanks and has a letter, and
   each `code` once. And they have at most MAX_IN_BLOCKS in blocks after <!-- not quoted --> that are no code.
 - Each record of docs/DECISIONS.md, from `### ` on, is a question, begins with its date and commit, and fits on a screen.
-- What is like a commit in `code`, or comes after `git show`, is a commit up to that of this clone. Where git says of none, as in a copy
-  that is no clone, this isn't checked.
+- What is like a commit in `code`, or comes after `git show`, is a commit up to that of this clone. In a copy that is no clone, or without
+  git, this isn't checked.
 - Figures of the pages, and answers and sentences of docs/REFUSALS.md, are those of the files that have them (lib/figures.py).
 - The two short lists of "What to read" in docs/MAP.md are closed, and are as long as the page says. An item `1. **Formats**, 600 lines: ..`
   lists files under the short names of the crates; a file "to `word`" is read to the line before the first one that has the word. Each word
@@ -96,9 +96,10 @@ def no_commits(texts: dict[str, str], commits: list[str]) -> tuple[list[str], in
 
 
 def commit_findings() -> tuple[list[str], int]:
-    """Which commits that pages name aren't there, and how many they name; nothing outside of a clone."""
-    commits, pages = clone.commits(), [*PAGES, *CALLER_PAGES]
-    return no_commits({it.relative_to(TOP).as_posix(): it.read_text() for it in pages}, commits) if commits else ([], 0)
+    """Which commits that pages name aren't there, and how many they name; nothing outside of a clone, or in one without a commit."""
+    if clone.commit().startswith("no "):
+        return [], 0
+    return no_commits({it.relative_to(TOP).as_posix(): it.read_text() for it in (*PAGES, *CALLER_PAGES)}, clone.commits())
 
 
 def record_findings() -> tuple[list[str], int]:

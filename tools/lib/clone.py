@@ -12,19 +12,14 @@ def git(*words: str) -> str:
     return subprocess.run(["git", *words], cwd=TOP, capture_output=True, text=True, check=False).stdout.strip()
 
 
-def is_clone() -> bool:
-    """Whether this is a clone, and git is there: a folder in the clone of another repository is none."""
-    return bool(shutil.which("git")) and git("rev-parse", "--show-toplevel") == str(TOP)
-
-
-def commits() -> list[str]:
-    """The commits up to that of this clone, if this is one."""
-    return git("rev-list", "HEAD").split() if is_clone() else []
-
-
 def commit() -> str:
-    """The commit of this clone, if this is one."""
-    if not is_clone():
+    """The commit of this clone, if this is one: a folder in the clone of another repository is none."""
+    if not shutil.which("git") or git("rev-parse", "--show-toplevel") != str(TOP):
         return "no clone"
     found = git("rev-parse", "--verify", "-q", "HEAD") or "no commit"
     return f"{found} and changes" if git("status", "--porcelain") else found
+
+
+def commits() -> list[str]:
+    """The commits up to that of this clone."""
+    return git("rev-list", "HEAD").split()
