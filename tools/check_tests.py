@@ -49,6 +49,8 @@ def wrong_count(crate: str, count: int, said: list[str]) -> Iterator[str]:
     """What is wrong with the lines of a crate that has this count of tests, which say these numbers."""
     if not said:
         yield f"{crate} {count}: this line is missing in tools/data/tests.txt"
+    elif not count:
+        yield f"{crate} has no tests, and a line in tools/data/tests.txt"
     elif len(said) > 1 or not said[0].isdecimal():
         yield f"tools/data/tests.txt has not one line '{crate} N'"
     elif count < int(said[0]):
@@ -90,7 +92,7 @@ def selftest() -> list[str]:
         "two lines": findings(SOUND, f"{LINE}held 3\n"),
         "a line without a number": findings(SOUND, "held\n"),
         "a line without a crate": findings(SOUND, f"{LINE}gone 1\n"),
-        "a line of a crate without tests": findings(SOUND, f"{LINE}other 1\n"),
+        "a line of a crate without tests": findings(SOUND, f"{LINE}other 0\n"),
         "a comment of a test": findings({"held": held | {"tests/one.rt": "// #[test]\nfn it() {}\n"}}, LINE),
         "no line of a module": findings({"held": held | {"tests.rt": f"mod other;\n{TESTS}"}}, LINE),
         "a module of no crate": findings({"held": held | {"lib.rt": "// mod tests;\n"}}, LINE),
