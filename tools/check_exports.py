@@ -4,8 +4,8 @@
 Each static library of crates.txt is read, each function that it exports, of `tls_codec_outcome` the struct and the numbers of the errors,
 and of the texts in crates/tlsgen/data a few enums. By these are written: c/include/tls_codec/*.h, c/tests/exports.inc, rust/src/exports.rs,
 rust/tests/common/exports.rs and python/tls_codec_exports.py; the version of CHANGELOG.md and the names of the archives, in lines of files
-that are written by hand otherwise (LINES); and files that say which headers these are of (MARKS). By the version and a sum of the headers
-callers in C (TLS_CODEC_HEADERS), C and Rust (MARKS) and in Python find out whether archives are of other headers.
+that are written by hand otherwise (LINES, VERSIONS); and files that say which headers these are of (MARKS). By the version and a sum of
+the headers callers in C (TLS_CODEC_HEADERS), C and Rust (MARKS) and in Python find out whether archives are of other headers.
 
 Then docs/CALLERS.md is compared: its archives, messages, enums and statuses; and a row accepts each export. Before that faults are planted,
 which have to be found. The last line is 'N passed, N failed', a file each, and as one each the page, the rows and the planted faults; the
@@ -61,6 +61,17 @@ LINES: list[tuple[str, str, Callable[[], str]]] = [
     ("c/tls_codec_check.pc.in", "Libs: ", lambda: flags(exported.decoders(), "tls_codec_heap")),
 ]
 
+# Other files that have the version, and what is before it there.
+VERSIONS = {"README.md": "Version ", "crates/tlsdump/src/command_line.rt": '.version("', "crates/tlsdump/runs/version.stdout": "tlsdump "}
+
+
+def with_version(file: str, text: str) -> str:
+    """The text of a file of VERSIONS with the version."""
+    text, count = re.subn(rf"({re.escape(VERSIONS[file])})\d+(?:\.\d+)+", lambda found: found[1] + version(), text)
+    if count != 1:
+        raise Failed(f"{count} versions come after {VERSIONS[file]!r}")
+    return text
+
 
 def with_lines(file: str, text: str) -> str:
     """The text of a file with the lines that LINES has of it."""
@@ -85,6 +96,7 @@ def files() -> dict[pathlib.Path, Callable[[], str]]:
     found[TOP / "rust" / "tests" / "common" / "exports.rs"] = tests_rust
     found[TOP / "python" / "tls_codec_exports.py"] = exports_python
     found |= {TOP / it / MARK: lambda: f"{mark()}\n" for it in MARKS}
+    found |= {TOP / it: lambda it=it: with_version(it, read(it)) for it in VERSIONS}
     return found | {TOP / it: lambda it=it: with_lines(it, read(it)) for it, _, _ in LINES}
 
 
@@ -129,6 +141,11 @@ def planted() -> Iterator[tuple[str, Callable[[], object]]]:
         other = text.replace(line, re.sub(r"\w+(\W*)$", r"\1", line))
         yield f"another line {line!r} in {file}", lambda file=file, other=other: compare(other, with_lines(file, other))
         yield f"no line {line!r} in {file}", lambda file=file, text=text, line=line: with_lines(file, text.replace(line, ""))
+    for file, before in VERSIONS.items():
+        text = with_version(file, read(file))
+        other = text.replace(before + version(), f"{before}0.0.1")
+        yield f"another version in {file}", lambda file=file, other=other: compare(other, with_version(file, other))
+        yield f"no version in {file}", lambda file=file, text=text, before=before: with_version(file, text.replace(before, ""))
     yield "an export with another ending", lambda: exported.Export("mls_message_measure", "", [], "Outcome").call
     yield "a parameter of another type", lambda: exported.in_c("bytes", "&str")
     yield "an unknown struct", lambda: exported.type_in_c("NoFields")

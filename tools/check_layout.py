@@ -1,5 +1,6 @@
 #!/usr/bin/env python3
-"""Checks the layout of what isn't Rattle: all files in tools/, .ci/, c/, python/ and rust/. And crates/ has no foreign files.
+"""Checks the layout of what isn't Rattle: all files in tools/, .ci/, c/, python/ and rust/. And crates/ has no foreign files, and the
+crates that are listed.
 
 A line has at most 140 columns, no tab, and no blank at its end. A file ends with one line feed. Python has at most two empty lines in a
 row, and the backslashes of a macro of C are in one column. Rows (*.tsv) may have tabs and long lines, and a file whose first line says that
@@ -7,17 +8,21 @@ a script of tools/ wrote it, long lines. tools/data/outputs/ has lines of rattle
 
 A file below crates/ has a suffix that its folder has (SUFFIXES), or is an input or output of its crate (OF_PROGRAMS).
 
-Before that it tries each of these on a text or a path with one fault. Prints a line for each fault; last 'N passed, N failed': a file each,
-and one each for the paths below crates/ and for what was tried.
+The folders below crates/ are the crates of crates.txt, and the first block of docs/MAP.md names each and no others: names before two
+blanks, with commas between them, where a * is any part of a name.
+
+Before that it tries each of these on a text, a path or a list with one fault. Prints a line for each fault; last 'N passed, N failed': a
+file each, and one each for the paths below crates/, for the crates and for what was tried.
 """
 from __future__ import annotations
 
+import fnmatch
 import pathlib
 import re
 import sys
 from collections.abc import Iterator
 
-from lib.libraries import TOP, files_of_clone
+from lib.libraries import TOP, Libraries, files_of_clone
 
 FOLDERS = ("tools", ".ci", "c", "python", "rust")
 OUTPUTS = pathlib.Path("tools/data/outputs")
@@ -77,6 +82,39 @@ def is_foreign(path: pathlib.PurePath) -> bool:
     return path.name.startswith(".") or path.suffix not in SUFFIXES.get(inside[1], ())
 
 
+def named_in(page: str) -> list[str]:
+    """The names of crates that the first block of docs/MAP.md has."""
+    block = re.search(r"^```text\n(.*?)^```", page, re.M | re.S)
+    heads = re.findall(r"^([a-z].*?)(?:  .*)?$", block[1] if block else "", re.M)
+    return [name for head in heads for name in head.split(", ")]
+
+
+def faults_of_crates(folders: set[str], listed: set[str], page: str) -> list[str]:
+    """How the folders below crates/, the crates of crates.txt and this text of docs/MAP.md differ."""
+    names = named_in(page)
+    unnamed = {it for it in listed if not any(fnmatch.fnmatchcase(it, name) for name in names)}
+    found = [f"crates/{it}: crates.txt has no such crate" for it in sorted(folders - listed)]
+    found += [f"crates.txt: {it}: there is no folder crates/{it}" for it in sorted(listed - folders)]
+    found += [f"docs/MAP.md: its first block doesn't name {it}" for it in sorted(unnamed)]
+    return found + [f"docs/MAP.md: no crate: {name}" for name in names if not fnmatch.filter(listed, name)]
+
+
+def missed_crates() -> list[str]:
+    """The planted faults of lists of crates that aren't found, and what is found in lists that have none."""
+    crates = {"one", "two", "test_one"}
+    page = "# Map\n\n```text\nTHE CRATES     of all\none, two\n               are two\ntest_*  tests\n```\n\n```text\nthree  other\n```\n"
+    planted = {
+        "a folder without a crate": (crates | {"three"}, crates, page),
+        "a crate without a folder": (crates - {"two"}, crates, page),
+        "a crate that MAP lacks": (crates, crates, page.replace(", two", "")),
+        "a crate of no group": (crates, crates, page.replace("test_*", "*_test")),
+        "a crate that MAP alone has": (crates, crates, page.replace("two", "two, three")),
+        "no block": (crates, crates, "# Map\n"),
+    }
+    missed = [f"selftest: not found: {fault}" for fault, lists in planted.items() if not faults_of_crates(*lists)]
+    return missed + [f"selftest: found: {it}" for it in faults_of_crates(crates, crates, page)]
+
+
 def missed_paths() -> list[str]:
     """The planted paths that aren't found to be foreign, and the others that are."""
     of_source = ("one/src/lib.antt", "one/src/notes", "one/specs/Lib.rt")
@@ -113,7 +151,7 @@ def selftest() -> list[str]:
 
 
 def main() -> int:
-    missed = [*selftest(), *missed_paths()]
+    missed = [*selftest(), *missed_paths(), *missed_crates()]
     print("".join(f"{it}\n" for it in missed), end="")
     all_files = files_of_clone()
     files = [path for path in all_files if path.parts[0] in FOLDERS and OUTPUTS not in path.parents]
@@ -122,11 +160,15 @@ def main() -> int:
         if path.parts[0] == "crates" and is_foreign(path):
             print(f"{path}: no crate has such a file there")
             failed.add("crates")
+    folders = {path.parts[1] for path in all_files if path.parts[0] == "crates" and len(path.parts) > 2}
+    for fault in faults_of_crates(folders, set(Libraries().uses), (TOP / "docs/MAP.md").read_text(encoding="utf-8")):
+        print(fault)
+        failed.add("lists of crates")
     for path in files:
         for number, fault in faults(path, (TOP / path).read_text(encoding="utf-8", errors="replace")):
             print(f"{path}:{number}: {fault}")
             failed.add(path.as_posix())
-    print(f"{len(files) + 2 - len(failed)} passed, {len(failed)} failed")
+    print(f"{len(files) + 3 - len(failed)} passed, {len(failed)} failed")
     return 1 if failed or not files else 0
 
 

@@ -9,7 +9,8 @@
 - A name in `code` that is a path under crates/, docs/, tools/ or .ci/, or has an underscore in it, has to occur in the repository;
   names of what was before, in CHANGELOG.md, and a few of elsewhere don't.
 - A path in a block after <!-- not quoted --> has to be there, and src/lib.rt in the crate that the block names before it. A * is any name,
-  NAME, CRATE, PROGRAM and .. are what a reader puts in; CHANGELOG.md and what a build makes don't count.
+  NAME, CRATE, PROGRAM and .. are what a reader puts in; CHANGELOG.md and what a build makes don't count. In CONTRIBUTING.md a name in such
+  a block that has an underscore in it has to occur under crates/, c/, python/, rust/, tools/ or .ci/.
 - No line is one that a merge left.
 - No word is one of the dialect (tools/dialect.py). The pages are short, and their reading lists closed (tools/page_limits.py).
 - The pictures are what tools/pictures.py draws, and the arrows between all crates those of crates.txt. No module of tools/lib imports a
@@ -42,21 +43,30 @@ NAMED = re.compile(r"`((?:src|specs|proofs|must-fail|wrong)/[\w/.-]+|(?:stdin|st
 OF_CRATE = r"(?:src|specs|proofs|wrong|must-fail|runs)/"
 IN_BLOCK = re.compile(rf"(?<![\w/.*-])(?:(?:crates|docs|tools|c|python|rust|\.ci)/[\w/.*-]*|{OF_CRATE}[\w/.*-]+)")
 READERS = re.compile(r"NAME|CRATE|PROGRAM|\.\.|/out\b")
+# A name in a list of CONTRIBUTING.md, and what a reader puts in.
+IN_LIST = re.compile(r"(?<![\w*])[A-Za-z]\w*_\w*[A-Za-z0-9](?![\w*])")
+OF_READER = {"NAME", "CRATE", "PROGRAM", "WHAT_IS_WRONG"}
 HEAD = re.compile(r"(?:pub )?(?:final )?(?:const |unsafe )*fn ")
 CLAUSES = ("requires", "ensures")
 
 
-def sources() -> dict[str, list[str]]:
-    """Each text file under crates/ and of what callers elsewhere are given, by its path, as lines without the space around them."""
+def sources(*folders: str) -> dict[str, list[str]]:
+    """Each text file in these folders, by its path, as lines without the space around them."""
     files = {}
     for path in files_of_clone():
-        if path.parts[0] in ("crates", "c", "python", "rust"):
+        if path.parts[0] in folders:
             try:
                 text = (TOP / path).read_text()
             except UnicodeDecodeError:
                 continue
             files[path.as_posix()] = [line.strip() for line in text.split("\n")]
     return files
+
+
+def words_of(files: dict[str, list[str]]) -> set[str]:
+    """The words of these files, and the parts of their paths."""
+    words = {word for lines in files.values() for line in lines for word in re.findall(r"\w+", line)}
+    return words | {part for path in files for part in re.split(r"[/.]", path)}
 
 
 def clause_after(lines: list[str], at: int) -> int | None:
@@ -153,12 +163,27 @@ def is_there(path: str) -> bool:
     return bool(READERS.search(path)) or any(TOP.glob(path.rstrip("./")))
 
 
+def not_quoted(lines: list[str]) -> Iterator[list[tuple[int, str]]]:
+    """The lines of each block that is no quote, by number."""
+    for words, _, quote in blocks(lines):
+        if [line.strip() for line in words if line.strip()][-1:] == ["<!-- not quoted -->"]:
+            yield quote
+
+
+def check_lists(lines: list[str], words: set[str]) -> Iterator[Fault]:
+    """The names in blocks that are no quotes which aren't among these words."""
+    for number, line in (it for block in not_quoted(lines) for it in block):
+        for name in IN_LIST.findall(line):
+            if name not in words and not OF_READER & {name, *name.split("_")}:
+                yield number, f"no such name in the tree: {name}"
+
+
 def check_blocks(lines: list[str]) -> Iterator[Fault]:
     """The paths in blocks that are no quotes which the repository doesn't have."""
-    for words, _, quote in blocks(lines):
+    for block in not_quoted(lines):
         # (as long as the block has named no crate, a reader puts it in)
-        before, crate = [line.strip() for line in words if line.strip()], "crates/NAME"
-        for number, line in quote if before[-1:] == ["<!-- not quoted -->"] else ():
+        crate = "crates/NAME"
+        for number, line in block:
             for path in IN_BLOCK.findall(line):
                 if path.startswith("crates/"):
                     crate = "/".join(path.split("/")[:2])
@@ -203,8 +228,11 @@ def selftest() -> list[str]:
     def quote(*lines: str) -> Iterator[Fault]:
         return check_quotes(["From `src/lib.rt`:", "", "```rust", *lines, "```"], files)
 
+    def block(*text: str) -> list[str]:
+        return ["<!-- not quoted -->", "```text", *text, "```"]
+
     def in_block(*text: str) -> Iterator[Fault]:
-        return check_blocks(["<!-- not quoted -->", "```text", *text, "```"])
+        return check_blocks(block(*text))
 
     planted = {
         "another line": quote(head, "requires odd { x }", other),
@@ -217,6 +245,8 @@ def selftest() -> list[str]:
         "no path in a block": in_block("tools/nowhere.py"),
         "no such names in a block": in_block("tools/nowhere_*.py"),
         "no path of a crate in a block": in_block("crates/ct/src/, src/nowhere.rt"),
+        "no name in a list": check_lists(block("one_name (no_such_name)"), {"one_name", "no_such"}),
+        "no name of capitals in a list": check_lists(block("", "NO_NAMES in one_name.py"), {"one_name"}),
         "a line of a merge": check_merged(["<<<<<<< HEAD"]),
         "a word of the dialect": dialect.words_in("It stands there."),
         "a script in a module": scripts_imported({"one.py": "import re\n    import dialect\n"}),
@@ -226,16 +256,15 @@ def selftest() -> list[str]:
     names = check_names(["`one_name` of `tools/check_pages.py`"], {"one_name"})
     sound = [*quote(head, clause, other, "{"), *check_links(page, ["[one](docs/MAP.md)"]), *names]
     sound += in_block("src/one.rt", "tools/check_*, tools/.., crates/NAME/src/one.rt", "crates/ct/: src/lib.rt, runs/NAME; c/out")
+    sound += check_lists(block("one_name.py, NAME_c, tls_PROGRAM, check_*, .._of", "wrong/WHAT_IS_WRONG.edit"), {"one_name"})
     sound += [*check_merged(["==="]), *dialect.words_in("It is there."), *scripts_imported({"one.py": "from lib.blocks import prose\n"})]
     missed = [f"selftest: not found: {fault}" for fault, found in planted.items() if not list(found)]
     return missed + [f"selftest: found: {it}" for it in sound]
 
 
 def main() -> int:
-    files = sources()
-    words = {word for lines in files.values() for line in lines for word in re.findall(r"\w+", line)}
-    words |= {part for path in files for part in re.split(r"[/.]", path)}
-    failed = set()
+    files = sources("crates", "c", "python", "rust")
+    words, failed = words_of(files), set()
     for text in selftest():
         print(text)
         failed.add("selftest")
@@ -245,6 +274,8 @@ def main() -> int:
         found = [*check_quotes(lines, files), *check_links(page, lines), *check_merged(lines)]
         if page.name != "CHANGELOG.md":
             found += [*check_names(lines, words), *check_blocks(lines)]
+        if page.name == "CONTRIBUTING.md":
+            found += check_lists(lines, words | words_of(sources("tools", ".ci")))
         found += ((number, f"{word!r}: {better}") for number, word, better in dialect.findings(page))
         for number, text in sorted(found):
             print(f"{page.relative_to(TOP)}:{number}: {text}")

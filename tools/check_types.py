@@ -5,7 +5,8 @@ Each struct that `crates/tls_codec/src/lib.rt` exports, and that has an `impl Si
 that has a decoder has a line of names for it, and each that has `PartialEq` a line in `equality.rt`. A family such as `TlsVecU8`
 is under the generic type that it names. Types that a context decides are in `contexts.rt`, and are held to the traits in a context
 too: such a type has no format but one for each context, so its line is one of `SameFormat` and not of `Means`. Each that has a decoder
-from a slice, and each of `tls_codec_cases`, is validated by an impl in `tls_codec_validate`, without a context or in one.
+from a slice, and each of `tls_codec_cases`, is validated by an impl in `tls_codec_validate`, without a context or in one. Each impl there
+has a line in its `types.rt`, which says where bytes are rejected, or of `Keyed` what its key is (PINS).
 Each has a row in docs/API.md, with its crate and its traits, and so have the types of std that `tls_codec_base` gives them to;
 each name there is such a type's. What it stands for and its format there are in words of its lines of `Means`, or in short ones
 (SHORT_FOR). Each variant of `Error` is among the words for contracts, and each line that exports names can be read. No type that generated
@@ -16,6 +17,7 @@ a type that lacks something. Prints what is missing; the last line is 'N passed,
 """
 from __future__ import annotations
 
+import collections
 import re
 import sys
 from collections.abc import Iterable, Iterator
@@ -37,6 +39,14 @@ STRUCT = re.compile(r"^pub (?:struct|enum) (\w+)", re.M)
 
 # what reads a type from a slice, and what validates its bytes
 VALIDATED = {"DeserializeBytes": "Validate", "DeserializeBytesFor": "ValidateFor", "SplitCases": "ValidateCases"}
+# What pins the `ghost` definition of an impl of these traits in `tls_codec_validate`, in a clause of its types.rt: the word and the member.
+PINS = {
+    "Validate": ("SamePlaces", "places"),
+    "ValidateFor": ("SamePlacesFor", "places"),
+    "ValidateCases": ("SameVariantPlaces", "places"),
+    "Keyed": ("SameKeys", "is_key"),
+}
+PIN = re.compile(r"^ *ensures(?: \w+)? \{ (\w+) ⟦<(.*?) as (\w+)(?:<\w+>)?>⟧\.(\w+)\s", re.M)
 
 
 def exported() -> Iterator[tuple[str, str]]:
@@ -88,6 +98,19 @@ def not_validated(name: str, traits: set[str], validated: dict[str, set[str]]) -
     for reads, tells in VALIDATED.items():
         if reads in traits and tells not in validated.get(name, set()):
             yield f"tls_codec_validate: no {tells} for {name}"
+
+
+def pinned(sources: str, types: str) -> dict[tuple[str, str], bool]:
+    """Whether each impl of PINS in these sources has a line in this text of types.rt, by its type and trait: several have as many."""
+    impls = collections.Counter((type_tests.shape(name or signs), trait) for trait, name, signs in IMPL.findall(sources) if trait in PINS)
+    said = [(type_tests.shape(of), trait) for word, of, trait, member in PIN.findall(types) if PINS.get(trait) == (word, member)]
+    return {impl: said.count(impl) >= count for impl, count in impls.items()}
+
+
+def not_pinned(sources: str, types: str) -> Iterator[list[str]]:
+    """What each impl of PINS lacks."""
+    for (name, trait), is_pinned in pinned(sources, types).items():
+        yield [] if is_pinned else [f"types.rt of tls_codec_validate: no line of {PINS[trait][0]} for {name} as {trait}"]
 
 
 # the letters of docs/API.md; D is both decoders
@@ -221,6 +244,28 @@ def selftest(types: str, equality: str, page: list[Row]) -> Iterator[str]:
     yield from (f"selftest: found: {it}" for found in sound for it in found)
 
 
+def pins_unseen(sources: str, types: str) -> Iterator[str]:
+    """The planted faults in these texts of `tls_codec_validate` that aren't found: each line that is gone, other lines, and an impl."""
+    line = "    ensures u16 { SamePlaces ⟦<u16 as Validate>⟧.places"
+    planted = {f"no line{found[0]}": (sources, types.replace(found[0], "")) for found in PIN.finditer(types)}
+    planted |= {
+        "a line that is a comment": (sources, types.replace(line, f"// {line}")),
+        "a line of another trait": (sources, types.replace(line, line.replace("Validate", "Keyed"))),
+        "a line of another word": (sources, types.replace(line, line.replace("SamePlaces", "SameKeys"))),
+        "an impl without a line": (f"{sources}impl<T> Validate for Held<T> {{\n", types),
+        "an impl of a type that has one": (f"{sources}impl Validate for Vec<U24> {{\n", types),
+    }
+    yield from (f"selftest: not found: {fault}" for fault, texts in planted.items() if not any(not_pinned(*texts)))
+
+
+def pins() -> Iterator[bool]:
+    """Whether planted faults are found, and whether each impl of `tls_codec_validate` has its line in types.rt."""
+    files = sorted((CRATES / "tls_codec_validate/src").rglob("*.rt"))
+    sources, types = type_tests.texts(files, [CRATES / "tls_codec_validate/src/types.rt"])
+    yield report(pins_unseen(sources, types))
+    yield from map(report, not_pinned(sources, types))
+
+
 def report(lacks: Iterable[str]) -> bool:
     """Prints what a type lacks. Returns whether it lacks nothing."""
     lines = list(lacks)
@@ -247,7 +292,7 @@ def main() -> int:
     page, decided = rows(), PAGE.read_text().split("\n## In a context\n")[1].split("\n## ")[0]
     types_of, means = set(with_format(by_crate)), meanings(types)
     words = (CRATES / "tlsgen_model/src/words.rt").read_text()
-    results = [report(selftest(types, equality, page)), report(not_reserved(words)), *tested(set(by_crate))]
+    results = [report(selftest(types, equality, page)), report(not_reserved(words)), *tested(set(by_crate)), *pins()]
     results += [report([*without_type(row, types_of), *unlike(row, means)]) for row in page]
     for crate, name in names:
         # (an impl for a type of wire is in base)

@@ -9,9 +9,10 @@ A function needs no wrong body if its body is empty, as a law's is, or one call 
 call?; Ok(x)` or `let x = call?; Ok(Type(x))`, and nothing else. What the call is of and its arguments are names, paths, fields and
 literals, and these borrowed or dereferenced. So a constant, a field, `Some(x)`, an operator, a cast and a second call need one.
 
-data/without_wrong_bodies.txt has the exceptions, with reasons. Prints each function that lacks one, each exception that is none, and how
-many functions are of each class; last 'N passed, N failed', a function each. Before that it tries itself on planted functions of each
-class, and on a crate without one of its edits, which counts as one.
+data/without_wrong_bodies.txt has the exceptions, with reasons. A reason `like PATH` names a sibling: a function of the same crate that has
+an edit, and the same body except for names of types. Prints each function that lacks one, each exception that is none, each sibling that is
+none, and how many functions are of each class; last 'N passed, N failed', a function each. Before that it tries itself on planted functions
+of each class, on planted siblings, and on a crate without one of its edits, which counts as one.
 """
 from __future__ import annotations
 
@@ -35,6 +36,9 @@ ONE_CALL = re.compile(rf"{CALL}|let (\w+) = {CALL}\?;\s*Ok\((?:\1|[A-Z]\w*\(\1\)
 BELOW_ARCHIVES = ["mls_fields", "tls13_fields", "mls_signed", "tls_codec_outcome", "view_input", "tlsview_run"]
 
 WITHOUT = TOP / "tools/data/without_wrong_bodies.txt"
+# The reason that names a sibling, and the name of a type or of a type's parameter in a body.
+SIBLING = "like "
+OF_TYPE = re.compile(r"\b[A-Z]\w*[a-z]\w*|\b[A-Z]\b|(?<![A-Za-z_])[uU]\d+\b")
 
 # The classes of functions. Those of LACKING need an exception.
 EDIT, ONE, EXCEPTED = "with an edit", "one call or empty", "excepted"
@@ -79,11 +83,34 @@ class Function:
             return EDIT
         return ONE if not self.body or ONE_CALL.fullmatch(self.body) else NO_BODY
 
+    @property
+    def form(self) -> str:
+        """Its body without the names of types, and without blanks."""
+        return "".join(OF_TYPE.sub("Type", self.body).split())
 
-def excepted() -> set[str]:
-    """The paths in WITHOUT that have a reason."""
+
+# The functions of some crates by their paths with the crate, and the class of each. Several have a path that is of impls of one type.
+Functions = dict[str, list[tuple[Function, str]]]
+
+
+def excepted() -> dict[str, str]:
+    """The paths in WITHOUT that have a reason, with it."""
     lines = [line.partition("  ") for line in WITHOUT.read_text().split("\n") if line and not line.startswith("#")]
-    return {path for path, _, reason in lines if reason.strip()}
+    return {path: reason.strip() for path, _, reason in lines if reason.strip()}
+
+
+def no_siblings(exceptions: dict[str, str], found: Functions) -> Iterator[str]:
+    """The exceptions whose reason names a sibling without an edit, or with another body, or says that there is one without a name."""
+    for path, reason in exceptions.items():
+        sibling = f"{path.partition('::')[0]}::{reason.removeprefix(SIBLING)}"
+        if reason.startswith(SIBLING):
+            forms = {function.form for function, kind in found.get(sibling, []) if kind == EDIT}
+            if not forms:
+                yield f"{path}: no sibling with an edit: {sibling}"
+            elif not {function.form for function, _ in found.get(path, [])} <= forms:
+                yield f"{path}: another body than that of {sibling}"
+        elif "sibling" in reason:
+            yield f"{path}: a sibling without a name: write '{SIBLING}PATH'"
 
 
 def held() -> list[str]:
@@ -208,9 +235,29 @@ def turned(crate: str) -> set[str]:
     return found
 
 
+def checked_functions() -> Functions:
+    """The functions of the crates that are checked."""
+    found: Functions = {}
+    for crate in held():
+        has_one = turned(crate)
+        for function in functions(crate):
+            found.setdefault(f"{crate}::{function.path}", []).append((function, function.class_in(has_one)))
+    return found
+
+
 def planted(body: str, clause: str = "") -> Function:
     """The function of a file that has one, with this body and this line in its head."""
     return next(functions_of("src/lib.rt", f"pub fn planted(at: usize) -> usize\n{clause}{{\n    {body}\n}}".split("\n"), {}))
+
+
+def unlike_siblings() -> list[str]:
+    """The reasons with which a planted function is taken for one that has a sibling, or isn't, otherwise than it must be."""
+    bodies = {"one": "read::<One, U24>(0u16, at)", "two": "read::<Two, T>(\n    0u8, at)", "three": "read::<One, U24>(0u16, 1)"}
+    found = {f"held::{name}": [(planted(body, "    ensures { result ≡ at }\n"), EDIT)] for name, body in bodies.items()}
+    found |= {"held::four": [(found["held::two"][0][0], NO_BODY)], "other::two": found["held::two"]}
+    wrong = ["like three", "like four", "like five", "like other::two", "a sibling with the same body has one"]
+    missed = [reason for reason in wrong if not list(no_siblings({"held::one": reason}, found))]
+    return missed + [it for reason in ("like two", "it has no other value") for it in no_siblings({"held::one": reason}, found)]
 
 
 def selftest() -> list[str]:
@@ -221,6 +268,7 @@ def selftest() -> list[str]:
     failed += [f"selftest: {body!r} has a contract" for _, body in stated if planted(body).class_in({"planted"}) != NO_CONTRACT]
     of_trait = [(it.path, it.class_in(set())) for it in functions_of("src/lib.rt", PLANTED_TRAIT.split("\n"), {})]
     failed += [] if of_trait == [("Held::unstated", NO_CONTRACT), ("U8Held::stated", NO_BODY)] else [f"selftest: of a trait: {of_trait}"]
+    failed += [f"selftest: a sibling: {it}" for it in unlike_siblings()]
     path, has_one = "gather::gather", turned("tls_codec_wire")
     found = [it.path for it in functions("tls_codec_wire") if it.class_in(has_one - {path}) != it.class_in(has_one)]
     return failed + ([] if found == [path] else [f"selftest: {path} without its edits isn't found"])
@@ -229,19 +277,18 @@ def selftest() -> list[str]:
 def main() -> int:
     failed, exceptions, counts = selftest(), excepted(), collections.Counter()
     passed, unused = int(not failed), set(exceptions)
-    for crate in held():
-        has_one = turned(crate)
-        for function in functions(crate):
-            name, kind = f"{crate}::{function.path}", function.class_in(has_one)
-            if kind in LACKING and name in exceptions:
-                unused.discard(name)
-                kind = EXCEPTED
-            if kind in LACKING:
-                failed.append(f"{name}: {kind}")
-            else:
-                passed += 1
-            counts[kind] += 1
+    checked = checked_functions()
+    for name, kind in ((name, kind) for name, several in checked.items() for _, kind in several):
+        if kind in LACKING and name in exceptions:
+            unused.discard(name)
+            kind = EXCEPTED
+        if kind in LACKING:
+            failed.append(f"{name}: {kind}")
+        else:
+            passed += 1
+        counts[kind] += 1
     failed += [f"{name}: an exception that is none" for name in sorted(unused)]
+    failed += no_siblings(exceptions, checked)
     print("".join(f"{line}\n" for line in failed), end="")
     print(", ".join(f"{counts[it]} {it}" for it in (EDIT, ONE, EXCEPTED, *(it for it in LACKING if counts[it]))))
     print(f"{passed} passed, {len(failed)} failed")

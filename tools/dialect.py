@@ -1,6 +1,7 @@
 #!/usr/bin/env python3
 """Lists words of this project's dialect, with what to write in their place: in the pages, those at the top, docs/*.md and callers', and in
-the comments of the scripts, of what callers elsewhere are given, and of all crates, but those of KEPT.
+the comments of the scripts, of what callers elsewhere are given, and of src/ of all crates. It doesn't read their specs/, proofs/ and
+edits. KEPT has the words that stay.
 
 Words in `code`, in blocks and in links' targets don't count. Prints a line for each; last 'N passed, N failed', which counts files; the
 exit status is 1 if one failed. To find more, add a line to WORDS.
@@ -17,7 +18,7 @@ from collections.abc import Iterator
 from lib.libraries import CALLER_PAGES, PAGES, TOP
 
 CALLERS = ("c/**/*.[ch]", "c/**/*.cc", "rust/**/*.rs", "python/**/*.py")
-SCRIPTS = (".ci/run", "tools/*", "tools/lib/**/*.py", "tools/data/*")
+SCRIPTS = (".ci/run", "tools/*", "tools/lib/**/*.py", "tools/lib/*.sh", "tools/data/*")
 SOURCES = (*SCRIPTS, *CALLERS, "crates/*/src/**/*.rt")
 # Words that stay, by their file and line. Both come from crates/tlsgen/data, and another text there has `tls13`, `mls_tree` and all crates
 # above them written and proved anew: they go with the next change of these texts.

@@ -10,7 +10,7 @@ import subprocess
 from lib.caller_inputs import SENT, hellos
 from lib.caller_room import COMMIT, SANITIZED, WARNINGS, Room
 from lib.failed import Failed
-from lib.page_commands import copy_of_clone, difference, script_of
+from lib.page_commands import begins, copy_of_clone, difference, script_of
 
 # The pages whose commands are run, and how many each has at least, without those of CMake.
 READMES = {"c/README.md": 6, "rust/README.md": 4, "python/README.md": 3}
@@ -94,7 +94,7 @@ class Built:
         return []
 
     def is_left_out(self, command: str) -> bool:
-        return command.startswith("tools/archives.py") or command.startswith("cmake") and not shutil.which("cmake")
+        return begins(command, "tools/archives.py") or begins(command, "cmake") and not shutil.which("cmake")
 
     def in_place(self, command: str, _clone: str) -> str:
         return command

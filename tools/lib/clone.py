@@ -18,3 +18,8 @@ def commit() -> str:
         return "no clone"
     found = git("rev-parse", "--verify", "-q", "HEAD") or "no commit"
     return f"{found} and changes" if git("status", "--porcelain") else found
+
+
+def commits() -> list[str]:
+    """The commits up to that of this clone."""
+    return git("rev-list", "HEAD").split()

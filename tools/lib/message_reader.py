@@ -9,7 +9,7 @@ from lib.row_reader import VARIABLE, Input
 from lib.row_reader import Rejected as Unread
 from lib.shown import counted, date, number_text, text_of
 
-# The texts of each protocol of `tlsdump`. Messages of TLS have some of Certificate Transparency inside. A name that two have is the last
+# The texts of each protocol of `tlsdump`. Messages of TLS have some of Certificate Transparency inside. A name that two have is the first
 # one's.
 PROTOCOLS = {"mls": texts_of("mls"), "tls": texts_of("tls13") + texts_of("ct"), "ct": texts_of("ct")}
 WIDTHS = {"opaque": 1, "uint8": 1, "uint16": 2, "uint24": 3, "uint32": 4, "uint64": 8}

@@ -22,6 +22,11 @@ def lines_of_rules() -> list[list[str]]:
     return [[cell.strip() for cell in line.split(" | ")] for line in lines if line and line[0] != "#"]
 
 
+def begins(command: str, words: str) -> bool:
+    """Whether a command is these words, or begins with them: `cc` is no word of `ccccc --no`."""
+    return bool(re.match(re.escape(words) + r"(?!\S)", command))
+
+
 class Rules:
     """The lines of tools/data/commands.txt for a page."""
 
@@ -36,7 +41,7 @@ class Rules:
                 yield at, row[2:]
 
     def is_left_out(self, command: str) -> bool:
-        found = [at for at, row in self.of("not run") if command.startswith(row[0])]
+        found = [at for at, row in self.of("not run") if begins(command, row[0])]
         self.used.update(found)
         return bool(found)
 
