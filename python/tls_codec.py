@@ -130,7 +130,7 @@ class Validators:
     def locate_prefix(self, message: str, data: Buffer) -> tuple[dict[str, bytes], bytes]:
         """Validates the message that the bytes begin with: its fields, by the names that its struct has in the headers, in that order, and
         the rest. WITH_LENGTH of tls_codec_exports has the fields whose bytes begin with a length, such as a list's."""
-        call, data = self._named(message, "_locate"), _plain(data)
+        call, data = self._named(message, "_locate_prefix"), _plain(data)
         names = FIELDS[message]
         spans = (Span * len(names))()
         outcome = self._accepted(call, data, spans)
@@ -167,7 +167,7 @@ class Validators:
         """The wire format of the MLSMessage that the bytes begin with, and the rest. Other numbers have names in tls_codec_exports, as
         MlsContentType."""
         wire_format, data = ctypes.c_uint16(), _plain(data)
-        outcome = self._accepted(self._named("mls_message_wire_format"), data, wire_format)
+        outcome = self._accepted(self._named("mls_message_wire_format_prefix"), data, wire_format)
         return MlsWireFormat(wire_format.value), data[outcome.taken :]
 
     def message_wire_format(self, data: Buffer) -> MlsWireFormat:

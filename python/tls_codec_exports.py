@@ -6,7 +6,7 @@ import enum
 VERSION = "0.3.0"
 
 # What archives of this version and these headers have beside them.
-MARK = "0.3.0 4cc19b16228c3d92"
+MARK = "0.3.0 555cb9c846690695"
 
 # The names of the statuses, by their numbers.
 STATUSES = [
@@ -26,25 +26,25 @@ STATUSES = [
 # The functions that are given bytes, and then what they fill.
 CALLS = [
     "tls_codec_varint_validate_prefix",
-    "tls_codec_opaque_v_locate",
-    "tls_codec_opaque_u8_locate",
-    "tls_codec_opaque_u16_locate",
-    "tls_codec_opaque_u24_locate",
+    "tls_codec_opaque_v_locate_prefix",
+    "tls_codec_opaque_u8_locate_prefix",
+    "tls_codec_opaque_u16_locate_prefix",
+    "tls_codec_opaque_u24_locate_prefix",
     "tls13_extension_next",
     "tls13_key_share_entry_next",
     "tls13_certificate_entry_next",
-    "tls13_handshake_locate",
-    "tls13_client_hello_locate",
-    "tls13_server_hello_locate",
-    "tls13_encrypted_extensions_locate",
-    "tls13_certificate_request_locate",
-    "tls13_certificate_locate",
-    "tls13_certificate_verify_locate",
-    "tls13_new_session_ticket_locate",
-    "tls13_key_update_locate",
-    "tls13_tls_plaintext_locate",
-    "tls13_tls_ciphertext_locate",
-    "tls13_alert_locate",
+    "tls13_handshake_locate_prefix",
+    "tls13_client_hello_locate_prefix",
+    "tls13_server_hello_locate_prefix",
+    "tls13_encrypted_extensions_locate_prefix",
+    "tls13_certificate_request_locate_prefix",
+    "tls13_certificate_locate_prefix",
+    "tls13_certificate_verify_locate_prefix",
+    "tls13_new_session_ticket_locate_prefix",
+    "tls13_key_update_locate_prefix",
+    "tls13_tls_plaintext_locate_prefix",
+    "tls13_tls_ciphertext_locate_prefix",
+    "tls13_alert_locate_prefix",
     "tls13_tls_plaintext_validate_prefix",
     "tls13_tls_ciphertext_validate_prefix",
     "tls13_alert_validate_prefix",
@@ -73,19 +73,19 @@ CALLS = [
     "mls_optional_node_next",
     "mls_proposal_or_ref_next",
     "mls_encrypted_group_secrets_next",
-    "mls_message_locate",
-    "mls_public_message_locate",
-    "mls_private_message_locate",
-    "mls_framed_content_locate",
-    "mls_sender_data_locate",
-    "mls_key_package_locate",
-    "mls_leaf_node_locate",
-    "mls_welcome_locate",
-    "mls_group_secrets_locate",
-    "mls_group_info_locate",
-    "mls_group_context_locate",
-    "mls_commit_locate",
-    "mls_proposal_locate",
+    "mls_message_locate_prefix",
+    "mls_public_message_locate_prefix",
+    "mls_private_message_locate_prefix",
+    "mls_framed_content_locate_prefix",
+    "mls_sender_data_locate_prefix",
+    "mls_key_package_locate_prefix",
+    "mls_leaf_node_locate_prefix",
+    "mls_welcome_locate_prefix",
+    "mls_group_secrets_locate_prefix",
+    "mls_group_info_locate_prefix",
+    "mls_group_context_locate_prefix",
+    "mls_commit_locate_prefix",
+    "mls_proposal_locate_prefix",
     "mls_message_validate_prefix",
     "mls_public_message_validate_prefix",
     "mls_private_message_validate_prefix",
@@ -100,7 +100,7 @@ CALLS = [
     "mls_key_package_validate_prefix",
     "mls_leaf_node_validate_prefix",
     "mls_ratchet_tree_validate_prefix",
-    "mls_message_wire_format",
+    "mls_message_wire_format_prefix",
     "mls_message_decode_check_prefix",
     "mls_public_message_decode_check_prefix",
     "mls_private_message_decode_check_prefix",
@@ -117,7 +117,7 @@ CALLS = [
     "mls_ratchet_tree_decode_check_prefix",
 ]
 
-# What `NAME_locate` fills, in this order, by NAME.
+# What `NAME_locate_prefix` fills, in this order, by NAME.
 FIELDS = {
     "tls_codec_opaque_v": ["content"],
     "tls_codec_opaque_u8": ["content"],

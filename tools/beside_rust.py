@@ -120,10 +120,10 @@ fn compare<T: Bytes>(name: &str, locate: Locate, width: usize, time: Duration) -
 fn main() {
     let time = Duration::from_secs(SECONDS) / 4;
     let results = [
-        compare::<VLBytes>("VLBytes", proved::locate_opaque_v, 0, time),
-        compare::<TlsByteVecU8>("TlsByteVecU8", proved::locate_opaque_u8, 1, time),
-        compare::<TlsByteVecU16>("TlsByteVecU16", proved::locate_opaque_u16, 2, time),
-        compare::<TlsByteVecU24>("TlsByteVecU24", proved::locate_opaque_u24, 3, time),
+        compare::<VLBytes>("VLBytes", proved::locate_opaque_v_prefix, 0, time),
+        compare::<TlsByteVecU8>("TlsByteVecU8", proved::locate_opaque_u8_prefix, 1, time),
+        compare::<TlsByteVecU16>("TlsByteVecU16", proved::locate_opaque_u16_prefix, 2, time),
+        compare::<TlsByteVecU24>("TlsByteVecU24", proved::locate_opaque_u24_prefix, 3, time),
     ];
     let passed = results.iter().filter(|it| **it).count();
     println!("{passed} passed, {} failed", results.len() - passed);

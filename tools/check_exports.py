@@ -149,7 +149,9 @@ def planted() -> Iterator[tuple[str, Callable[[], object]]]:
     yield "an export with another ending", lambda: exported.Export("mls_message_measure", "", [], "Outcome").call
     yield "a parameter of another type", lambda: exported.in_c("bytes", "&str")
     yield "an unknown struct", lambda: exported.type_in_c("NoFields")
-    yield "a call that fills nothing", lambda: exported.taken_by(exported.Export("mls_message_locate", "", [("bytes", "&[u8]")], "Outcome"))
+    call = exported.Export("mls_message_locate_prefix", "`MLSMessage`.", [("bytes", "&[u8]")], "Outcome")
+    yield "a call that fills nothing", lambda: exported.taken_by(call)
+    yield "a call whose text doesn't say what it finds", call.in_c
 
 
 def find_planted() -> None:

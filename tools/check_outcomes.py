@@ -29,7 +29,7 @@ PLANTS = [
     (EXTENSIONS, "\t2 0 2 0\t", "\t2 0 7 0\t"),
     (EXTENSIONS, "\t0+5", "\t0+6"),
     ("tls13_key_update\tc0", "8 0 0 192", "8 0 0 0"),
-    ("mls_message_wire_format\t0001000201fa0000000000000007010001a102a2a3", "\t2", "\t1"),
+    ("mls_message_wire_format_prefix\t0001000201fa0000000000000007010001a102a2a3", "\t2", "\t1"),
 ]
 
 
@@ -40,15 +40,14 @@ def spans_of(spans: list[Span]) -> str:
 
 def columns(name: str, data: bytes) -> list[str]:
     """The columns after a row's input: what the call says, and what it fills."""
-    message, _, call = name.rpartition("_")
-    if call == "next":
-        outcome, spans = elements(message, data)
+    if name.endswith("_next"):
+        outcome, spans = elements(name.removesuffix("_next"), data)
         return [str(outcome), spans_of(spans) or "-"]
-    if call == "locate":
-        outcome, spans, _ = located(message, data)
+    if name.endswith("_locate_prefix"):
+        outcome, spans, _ = located(name.removesuffix("_locate_prefix"), data)
         return [str(outcome), spans_of(spans) or "-"]
-    if name.endswith("_wire_format"):
-        outcome, _, tags = located(name.removesuffix("_wire_format"), data)
+    if name.endswith("_wire_format_prefix"):
+        outcome, _, tags = located(name.removesuffix("_wire_format_prefix"), data)
         formats = {kind: number for number, _, kind in TEXT_OF_LIBRARY["mls"].enums["WireFormat"][0]}
         return [str(outcome), str(formats[tags["wire_format"]]) if tags else "-"]
     outcome, spans, _ = located(name, data)

@@ -47,7 +47,7 @@ static size_t announced(const uint8_t *bytes, size_t size) {
 /* The place of the ClientHello in a Handshake, whose body begins with its length of three bytes. */
 static int find_hello(const uint8_t *message, size_t length, tls_codec_span *hello) {
   tls13_handshake_fields fields;
-  if (tls_codec_whole_status(tls13_handshake_locate(message, length, &fields), length) != TLS_CODEC_ACCEPTED) return 0;
+  if (tls13_handshake_locate(message, length, &fields).status != TLS_CODEC_ACCEPTED) return 0;
   if (message[fields.msg_type.offset] != TLS13_HANDSHAKE_TYPE_CLIENT_HELLO) return 0;
   if (tls_codec_opaque_u24_locate(message + fields.body.offset, fields.body.size, hello).status != TLS_CODEC_ACCEPTED) return 0;
   hello->offset += fields.body.offset;

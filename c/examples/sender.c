@@ -45,7 +45,8 @@ static int print_public_message(const uint8_t *message, size_t length) {
   const uint8_t *content = message + fields.content.offset, *auth = message + fields.auth.offset;
   outcome = mls_framed_content_locate(content, fields.content.size, &framed);
   if (outcome.status != TLS_CODEC_ACCEPTED) return rejected("content", outcome);
-  outcome = tls_codec_opaque_v_locate(auth, fields.auth.size, &signature);
+  /* of a commit the confirmation tag comes after the signature */
+  outcome = tls_codec_opaque_v_locate_prefix(auth, fields.auth.size, &signature);
   if (outcome.status != TLS_CODEC_ACCEPTED) return rejected("signature", outcome);
   print_sender(content + framed.sender.offset);
   puts(contents[content[framed.content_type.offset]]);
@@ -61,7 +62,7 @@ int main(void) {
     return 1;
   }
   mls_message_fields fields;
-  tls_codec_outcome outcome = tls_codec_whole(mls_message_locate(bytes, length, &fields), length);
+  tls_codec_outcome outcome = mls_message_locate(bytes, length, &fields);
   if (outcome.status != TLS_CODEC_ACCEPTED) return rejected("message", outcome);
   uint16_t wire_format = tls_codec_u16(bytes + fields.wire_format.offset);
   puts(wire_formats[wire_format]);

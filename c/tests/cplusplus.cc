@@ -21,9 +21,11 @@ int main() {
   const tls_codec_outcome one = tls_codec_varint_validate_prefix(varint, sizeof varint);
   const uint8_t opaque[] = {0, 2, 7, 8, 0xee};
   tls_codec_span content = {9, 9};
-  const bool is_content = tls_codec_opaque_u16_locate(opaque, sizeof opaque, &content).taken == 4 && content.offset == 2 &&
-                          content.size == 2;
-  const bool is_kept = tls_codec_opaque_v_locate(opaque + 1, 2, &content).status == TLS_CODEC_DECODING_ERROR && content.offset == 2;
+  const bool is_content = tls_codec_opaque_u16_locate_prefix(opaque, sizeof opaque, &content).taken == 4 && content.offset == 2 &&
+                          content.size == 2 && tls_codec_opaque_u8_locate(opaque + 1, 3, &content).taken == 3 && content.offset == 1;
+  const tls_codec_outcome more = tls_codec_opaque_u16_locate(opaque, sizeof opaque, &content);
+  const bool is_kept = tls_codec_opaque_v_locate_prefix(opaque + 1, 2, &content).status == TLS_CODEC_DECODING_ERROR &&
+                       more.status == TLS_CODEC_TRAILING_DATA && more.at == 4 && more.taken == 0 && content.offset == 1;
   const bool is_whole = tls13_alert_validate(alert, 2).taken == 2 &&
                         tls13_alert_validate(alert, sizeof alert).status == TLS_CODEC_TRAILING_DATA && tls_codec_u16(opaque) == 2 &&
                         tls_codec_varint_value(varint) == 63;

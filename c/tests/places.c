@@ -1,4 +1,5 @@
-/* places FILE: what is filled for each row of test_places or lengths.tsv: places of fields, of elements and of contents, and wire formats.
+/* places FILE: what is filled for each row of test_places or lengths.tsv: places of fields, of elements and of contents, and wire formats;
+ * and that the calls without `_prefix` fill the same, or reject what comes after it.
  *
  * A row has a function's name, hex or `-`, what the last call is to say, as `STATUS TAKEN AT DETAIL`, and what it is to fill, or `-`. The
  * bytes of `NAME_next` are those of a list after its length; each of their bits is turned in its turn. What is rejected fills nothing. */
@@ -35,8 +36,8 @@ static void add(struct answer *it, tls_codec_span place) {
   snprintf(it->filled + used, sizeof it->filled - used, "%s%zu+%zu", used ? " " : "", place.offset, place.size);
 }
 
-static int are_marks(const tls_codec_span *places, size_t size) {
-  const unsigned char *byte = (const unsigned char *)places;
+static int are_marks(const void *places, size_t size) {
+  const unsigned char *byte = places;
   for (size_t i = 0; i < size; i++)
     if (byte[i] != MARK) return 0;
   return 1;
@@ -71,31 +72,43 @@ static int is_sound_with_each_bit_turned(next *next, uint8_t *bytes, size_t leng
   return failed == 0;
 }
 
-/* Calls the function of this name. Returns whether there is one, and its calls are sound. */
+/* Whether the call that needs all of the bytes says the same, or that some are left, and fills this number, or nothing. */
+static int is_wire_format_alike(const uint8_t *bytes, size_t length, tls_codec_outcome outcome, uint16_t wire_format) {
+  uint16_t found = 77;
+  tls_codec_outcome whole = mls_message_wire_format(bytes, length, &found);
+  return is_whole_alike(whole, outcome, length) && found == (whole.status == TLS_CODEC_ACCEPTED ? wire_format : 77);
+}
+
+/* Calls the function of this name, and the one without `_prefix`. Returns whether there is one, and the calls are sound. */
 static int call(const char *name, uint8_t *bytes, size_t length, struct answer *answer) {
   const struct list *list = find(name);
   if (list) return go_over(list->next, bytes, length, answer) && is_sound_with_each_bit_turned(list->next, bytes, length);
-  if (strcmp(name, "mls_message_wire_format") == 0) {
+  if (strcmp(name, "mls_message_wire_format_prefix") == 0) {
     uint16_t wire_format = 77;
-    answer->outcome = mls_message_wire_format(bytes, length, &wire_format);
+    answer->outcome = mls_message_wire_format_prefix(bytes, length, &wire_format);
+    if (!is_wire_format_alike(bytes, length, answer->outcome, wire_format)) return 0;
     if (answer->outcome.status != TLS_CODEC_ACCEPTED) return wire_format == 77;
     sprintf(answer->filled, "%d", wire_format);
     return 1;
   }
   if (strcmp(name, "tls_codec_varint_validate_prefix") == 0) {
     answer->outcome = tls_codec_varint_validate_prefix(bytes, length);
-    return 1;
+    return is_whole_alike(tls_codec_varint_validate(bytes, length), answer->outcome, length);
   }
-#define LOCATED(message, fields)                                                                \
-  if (strcmp(name, #message "_locate") == 0) {                                                  \
-    fields it;                                                                                  \
-    tls_codec_span places[sizeof it / sizeof(tls_codec_span)];                                  \
-    memset(&it, MARK, sizeof it);                                                               \
-    answer->outcome = message##_locate(bytes, length, &it);                                     \
-    memcpy(places, &it, sizeof it);                                                             \
-    if (answer->outcome.status != TLS_CODEC_ACCEPTED) return are_marks(places, sizeof places);  \
-    for (size_t i = 0; i < sizeof places / sizeof *places; i++) add(answer, places[i]);         \
-    return 1;                                                                                   \
+#define LOCATED(message, fields)                                                                                                   \
+  if (strcmp(name, #message "_locate_prefix") == 0) {                                                                              \
+    fields found, whole;                                                                                                           \
+    tls_codec_span places[sizeof found / sizeof(tls_codec_span)];                                                                  \
+    memset(&found, MARK, sizeof found);                                                                                            \
+    memset(&whole, MARK, sizeof whole);                                                                                            \
+    answer->outcome = message##_locate_prefix(bytes, length, &found);                                                              \
+    tls_codec_outcome outcome = message##_locate(bytes, length, &whole);                                                           \
+    int is_well = is_whole_alike(outcome, answer->outcome, length);                                                                \
+    is_well &= outcome.status == TLS_CODEC_ACCEPTED ? memcmp(&whole, &found, sizeof whole) == 0 : are_marks(&whole, sizeof whole); \
+    if (answer->outcome.status != TLS_CODEC_ACCEPTED) return is_well && are_marks(&found, sizeof found);                           \
+    memcpy(places, &found, sizeof found);                                                                                          \
+    for (size_t i = 0; i < sizeof places / sizeof *places; i++) add(answer, places[i]);                                            \
+    return is_well;                                                                                                                \
   }
 #include "exports.inc"
 #undef LOCATED

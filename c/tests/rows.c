@@ -12,31 +12,27 @@ union fields {
 #undef LOCATED
 };
 
-/* What a `locate` says, and what it leaves in its struct. */
+/* What a call that finds fields says, and what it leaves in its struct. */
 struct located {
   tls_codec_outcome outcome;
   size_t count;
   tls_codec_span spans[sizeof(union fields) / sizeof(tls_codec_span)];
 };
 
-/* Calls the message's `locate`, over a struct whose bytes are all 0xa5. No spans: it has none. */
-static struct located locate(const char *name, const uint8_t *bytes, size_t length) {
+/* Calls the message's `locate`, or its `locate_prefix`, over a struct whose bytes are all 0xa5. No spans: it has neither. */
+static struct located locate(const char *name, int is_whole, const uint8_t *bytes, size_t length) {
   struct located found = {{0, 0, 0, 0}, 0, {{0, 0}}};
-#define LOCATED(message, fields)                          \
-  if (strcmp(name, #message) == 0) {                      \
-    fields it;                                            \
-    memset(&it, 0xa5, sizeof it);                         \
-    found.outcome = message##_locate(bytes, length, &it); \
-    found.count = sizeof it / sizeof(tls_codec_span);     \
-    memcpy(found.spans, &it, sizeof it);                  \
+#define LOCATED(message, fields)                                                                                   \
+  if (strcmp(name, #message) == 0) {                                                                               \
+    fields it;                                                                                                     \
+    memset(&it, 0xa5, sizeof it);                                                                                  \
+    found.outcome = is_whole ? message##_locate(bytes, length, &it) : message##_locate_prefix(bytes, length, &it); \
+    found.count = sizeof it / sizeof(tls_codec_span);                                                              \
+    memcpy(found.spans, &it, sizeof it);                                                                           \
   }
 #include "exports.inc"
 #undef LOCATED
   return found;
-}
-
-static int is_same(tls_codec_outcome one, tls_codec_outcome other) {
-  return one.status == other.status && one.taken == other.taken && one.at == other.at && one.detail == other.detail;
 }
 
 /* Whether the struct is as it was. */
@@ -57,29 +53,44 @@ static int are_in(const struct located *it, size_t taken) {
   return end == taken;
 }
 
-/* Whether the call that needs all of the bytes says the same, or that some are left. */
-static int is_whole_alike(message_call *call, tls_codec_outcome outcome, const uint8_t *bytes, size_t length) {
-  tls_codec_outcome whole = call(bytes, length);
-  if (outcome.status != TLS_CODEC_ACCEPTED || outcome.taken == length) return is_same(whole, outcome);
-  return whole.status == TLS_CODEC_TRAILING_DATA && !whole.taken && whole.at == outcome.taken && !whole.detail;
-}
-
 /* Whether the decoder's two calls say the same, except for the rejected field's place. */
 static int is_decoded_alike(const struct message *it, tls_codec_outcome outcome, const uint8_t *bytes, size_t length) {
   outcome.at = 0;
-  return is_same(it->decode_check_prefix(bytes, length), outcome) && is_whole_alike(it->decode_check, outcome, bytes, length);
+  return is_same(it->decode_check_prefix(bytes, length), outcome) && is_whole_alike(it->decode_check(bytes, length), outcome, length);
+}
+
+/* Whether the two calls that find the fields say the same as the validator, and fill alike what they accept, and else nothing. */
+static int is_located_alike(const struct message *it, tls_codec_outcome outcome, const uint8_t *bytes, size_t length) {
+  struct located found = locate(it->name, 0, bytes, length), whole = locate(it->name, 1, bytes, length);
+  if (!found.count) return 1;
+  int is_well = is_same(found.outcome, outcome) && is_whole_alike(whole.outcome, outcome, length);
+  is_well &= outcome.status == TLS_CODEC_ACCEPTED ? are_in(&found, outcome.taken) : is_kept(&found);
+  if (whole.outcome.status != TLS_CODEC_ACCEPTED) return is_well & is_kept(&whole);
+  return is_well && memcmp(whole.spans, found.spans, found.count * sizeof(tls_codec_span)) == 0;
 }
 
 /* What has to be so of any bytes. */
 static int is_sound(const struct message *it, const uint8_t *bytes, size_t length) {
   tls_codec_outcome outcome = it->validate_prefix(bytes, length);
-  struct located found = locate(it->name, bytes, length);
   int is_accepted = outcome.status == TLS_CODEC_ACCEPTED;
   int is_well = is_accepted ? outcome.taken <= length && !outcome.at && !outcome.detail
                             : !outcome.taken && outcome.at <= length && outcome.status < TLS_CODEC_OUT_OF_MEMORY;
-  is_well &= is_decoded_alike(it, outcome, bytes, length) && is_whole_alike(it->validate, outcome, bytes, length);
-  if (!found.count) return is_well;
-  return is_well && is_same(outcome, found.outcome) && (is_accepted ? are_in(&found, outcome.taken) : is_kept(&found));
+  is_well &= is_decoded_alike(it, outcome, bytes, length) && is_whole_alike(it->validate(bytes, length), outcome, length);
+  return is_well && is_located_alike(it, outcome, bytes, length);
+}
+
+/* Whether a byte after the bytes of a message changes nothing of what the calls of a prefix say. */
+static int is_sound_with_a_byte_more(const struct message *it, const uint8_t *bytes, size_t length) {
+  tls_codec_outcome outcome = it->validate_prefix(bytes, length);
+  uint8_t *more = malloc(length + 1);
+  if (!more) exit(2);
+  memcpy(more, bytes, length);
+  more[length] = 7;
+  int is_well = is_sound(it, more, length + 1);
+  is_well &= outcome.status != TLS_CODEC_ACCEPTED || is_same(it->validate_prefix(more, length + 1), outcome);
+  free(more);
+  if (!is_well) printf("%s: with a byte after it the calls say what can't be\n", it->name);
+  return is_well;
 }
 
 static int is_sound_with_each_bit_turned(const struct message *it, uint8_t *bytes, size_t length) {
@@ -96,7 +107,7 @@ static int is_sound_with_each_bit_turned(const struct message *it, uint8_t *byte
 /* Whether the fields are where the row has them; a row without fields has no such column. */
 static int are_placed(const struct message *it, const uint8_t *bytes, size_t length, const char *wanted) {
   char text[512] = "";
-  struct located found = locate(it->name, bytes, length);
+  struct located found = locate(it->name, 0, bytes, length);
   for (size_t i = 0; found.outcome.status == TLS_CODEC_ACCEPTED && i < found.count; i++) {
     size_t used = strlen(text);
     snprintf(text + used, sizeof text - used, "%s%zu+%zu", i ? " " : "", found.spans[i].offset, found.spans[i].size);
@@ -120,7 +131,10 @@ static int is_rest_rejected(void) {
   int is_well = is_as_expected("an alert", "validator of a prefix", it->validate_prefix(bytes, sizeof bytes), "0 2 0 0");
   is_well &= is_as_expected("an alert", "validator", it->validate(bytes, sizeof bytes), "7 0 2 0");
   is_well &= is_as_expected("an alert", "decoder of a prefix", it->decode_check_prefix(bytes, sizeof bytes), "0 2 0 0");
-  return is_well & is_as_expected("an alert", "decoder", it->decode_check(bytes, sizeof bytes), "7 0 2 0");
+  is_well &= is_as_expected("an alert", "decoder", it->decode_check(bytes, sizeof bytes), "7 0 2 0");
+  struct located found = locate(it->name, 0, bytes, sizeof bytes), whole = locate(it->name, 1, bytes, sizeof bytes);
+  is_well &= is_as_expected("an alert", "finder of a prefix's fields", found.outcome, "0 2 0 0") & are_in(&found, 2);
+  return is_well & is_as_expected("an alert", "finder of fields", whole.outcome, "7 0 2 0") & is_kept(&whole);
 }
 
 int main(int count, char **words) {
@@ -142,6 +156,7 @@ int main(int count, char **words) {
     int is_well = is_as_expected(name, "validator", it->validate_prefix(bytes, length), validated);
     is_well &= !decoded || is_as_expected(name, "decoder", it->decode_check_prefix(bytes, length), decoded);
     is_well &= !decoded || are_placed(it, bytes, length, fields ? fields : "");
+    is_well &= is_sound_with_a_byte_more(it, bytes, length);
     failed += !(is_sound_with_each_bit_turned(it, bytes, length) && is_well);
     free(bytes);
   }

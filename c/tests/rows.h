@@ -1,4 +1,4 @@
-/* What the tests in C share: a row's bytes, the text of an outcome, and the messages with their calls. */
+/* What the tests in C share: a row's bytes, the text of an outcome, how two compare, and the messages with their calls. */
 #ifndef ROWS_H
 #define ROWS_H
 
@@ -50,6 +50,16 @@ static inline const char *text_of(tls_codec_outcome it) {
   static char text[100];
   snprintf(text, sizeof text, "%" PRIu32 " %zu %zu %" PRIu64, it.status, it.taken, it.at, it.detail);
   return text;
+}
+
+static inline int is_same(tls_codec_outcome one, tls_codec_outcome other) {
+  return one.status == other.status && one.taken == other.taken && one.at == other.at && one.detail == other.detail;
+}
+
+/* Whether the call that needs all of the bytes says the same as the one of a prefix, or that some are left. */
+static inline int is_whole_alike(tls_codec_outcome whole, tls_codec_outcome outcome, size_t length) {
+  if (outcome.status != TLS_CODEC_ACCEPTED || outcome.taken == length) return is_same(whole, outcome);
+  return whole.status == TLS_CODEC_TRAILING_DATA && !whole.taken && whole.at == outcome.taken && !whole.detail;
 }
 
 #endif

@@ -3,21 +3,25 @@ from __future__ import annotations
 
 import pathlib
 import sys
+from typing import Union
 
 sys.dont_write_bytecode = True
 sys.path.insert(0, str(pathlib.Path(__file__).resolve().parent.parent))
 from tls_codec import Rejected, Validators
-from tls_codec_exports import MlsWireFormat, Tls13HandshakeType, Tls13KeyUpdateRequest, Tls13SignatureScheme
+from tls_codec_exports import STATUSES, MlsWireFormat, Tls13HandshakeType, Tls13KeyUpdateRequest, Tls13SignatureScheme
+
+# What is found, and the numbers of what is rejected after it.
+Found = tuple[Union[list[bytes], int], tuple[int, int, int]]
 
 
-def found(validators: Validators, name: str, data: bytes) -> tuple[list[bytes] | int, tuple[int, int, int]]:
+def found(validators: Validators, name: str, data: bytes) -> Found:
     """What is found, and the numbers of what is rejected after it."""
     parts: list[bytes] = []
     try:
-        if name == "mls_message_wire_format":
+        if name == "mls_message_wire_format_prefix":
             return validators.message_wire_format_prefix(data)[0], (0, 0, 0)
-        if name.endswith("_locate"):
-            return list(validators.locate_prefix(name.removesuffix("_locate"), data)[0].values()), (0, 0, 0)
+        if name.endswith("_locate_prefix"):
+            return list(validators.locate_prefix(name.removesuffix("_locate_prefix"), data)[0].values()), (0, 0, 0)
         if name.endswith("_validate_prefix"):
             return [validators.validate_prefix(name.removesuffix("_validate_prefix"), data)[0]], (0, 0, 0)
         for element in validators.elements(name.removesuffix("_next"), data):
@@ -27,10 +31,31 @@ def found(validators: Validators, name: str, data: bytes) -> tuple[list[bytes] |
         return parts, (rejected.status, rejected.at, rejected.detail)
 
 
-def wanted(name: str, data: bytes, expected: str, filled: str) -> tuple[list[bytes] | int, tuple[int, int, int]]:
+def found_in_all(validators: Validators, name: str, data: bytes) -> Found:
+    """The same by the call that needs all of the bytes. A list has no other."""
+    try:
+        if name == "mls_message_wire_format_prefix":
+            return validators.message_wire_format(data), (0, 0, 0)
+        if name.endswith("_locate_prefix"):
+            return list(validators.locate(name.removesuffix("_locate_prefix"), data).values()), (0, 0, 0)
+        if name.endswith("_validate_prefix"):
+            return [validators.validate(name.removesuffix("_validate_prefix"), data)], (0, 0, 0)
+        return found(validators, name, data)
+    except Rejected as rejected:
+        return [], (rejected.status, rejected.at, rejected.detail)
+
+
+def wanted_in_all(name: str, data: bytes, expected: str, filled: str) -> Found:
+    """The same as the row has it: TrailingData if bytes are left."""
+    status, taken, _, _ = map(int, expected.split())
+    is_left = name.endswith("_prefix") and not status and taken < len(data)
+    return ([], (STATUSES.index("TrailingData"), taken, 0)) if is_left else wanted(name, data, expected, filled)
+
+
+def wanted(name: str, data: bytes, expected: str, filled: str) -> Found:
     """The same as the row has it: of an element that is rejected its place is after those before it. A validator finds what it takes."""
     status, taken, at, detail = map(int, expected.split())
-    if name == "mls_message_wire_format" and not status:
+    if name == "mls_message_wire_format_prefix" and not status:
         return int(filled), (0, 0, 0)
     if name.endswith("_validate_prefix") and not status:
         return [data[:taken]], (0, 0, 0)
@@ -63,10 +88,10 @@ def main() -> int:
         rows = [line.rstrip("\n").split("\t") for line in file]
     for name, digits, expected, filled in rows:
         data = b"" if digits == "-" else bytes.fromhex(digits)
-        answer = found(validators, name, data)
-        if answer != wanted(name, data, expected, filled):
+        answer, in_all = found(validators, name, data), found_in_all(validators, name, data)
+        if (answer, in_all) != (wanted(name, data, expected, filled), wanted_in_all(name, data, expected, filled)):
             failed += 1
-            print(f"{name} {digits}: {answer}, and not {expected}, {filled}")
+            print(f"{name} {digits}: {answer}, of all of the bytes {in_all}, and not {expected}, {filled}")
     print(f"{len(rows)} rows, {failed} failed")
     return 1 if failed or len(rows) < 100 else 0
 

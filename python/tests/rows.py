@@ -11,13 +11,13 @@ from typing import Optional
 sys.dont_write_bytecode = True
 sys.path.insert(0, str(pathlib.Path(__file__).resolve().parent.parent))
 from tls_codec import Rejected, Span, Validators, varint_value
-from tls_codec_exports import FIELDS, WITH_LENGTH, MlsWireFormat
+from tls_codec_exports import FIELDS, STATUSES, WITH_LENGTH, MlsWireFormat
 
 Numbers = tuple[int, int, Optional[int], int]
 # The lists among the fields, and the calls that find their elements.
 LISTS = {
-    "mls": {it: "tls_codec_opaque_v_locate" for it in ("extensions", "proposals", "psks", "secrets")},
-    "tls13": {it: "tls_codec_opaque_u16_locate" for it in ("extensions", "cipher_suites")},
+    "mls": {it: "tls_codec_opaque_v_locate_prefix" for it in ("extensions", "proposals", "psks", "secrets")},
+    "tls13": {it: "tls_codec_opaque_u16_locate_prefix" for it in ("extensions", "cipher_suites")},
 }
 
 
@@ -34,10 +34,10 @@ def answer(call: Callable[[str, bytes], tuple[bytes, bytes]], name: str, data: b
         return numbers(rejected)
 
 
-def fields(validators: Validators, name: str, data: bytes) -> list[bytes] | Numbers:
+def fields(call: Callable[[str, bytes], dict[str, bytes]], name: str, data: bytes) -> list[bytes] | Numbers:
     """The fields of a message in their order, or what is rejected."""
     try:
-        return list(validators.locate_prefix(name, data)[0].values())
+        return list(call(name, data).values())
     except Rejected as rejected:
         return numbers(rejected)
 
@@ -48,7 +48,20 @@ def are_placed(validators: Validators, name: str, data: bytes, columns: list[str
     if name not in FIELDS or len(columns) == 3:
         return len(columns) < 5
     places = [tuple(map(int, it.split("+"))) for it in " ".join(columns[4:]).split()]
-    return fields(validators, name, data) == (expected if expected[0] else [data[offset : offset + size] for offset, size in places])
+    found = fields(lambda *it: validators.locate_prefix(*it)[0], name, data)
+    return found == (expected if expected[0] else [data[offset : offset + size] for offset, size in places])
+
+
+def is_whole_alike(validators: Validators, name: str, data: bytes, expected: Numbers) -> bool:
+    """Whether the calls that need all of the bytes say the same of them, or that some are left."""
+    status, taken, _, detail = expected
+    rejected = (STATUSES.index("TrailingData"), 0, taken, 0) if not status and taken < len(data) else None
+    calls = {"validate": rejected or expected, "decode_check": rejected or (status, taken, None if status else 0, detail)}
+    found = {it: answer(lambda *given, it=it: (getattr(validators, it)(*given), b""), name, data) for it in calls}
+    if name not in FIELDS:
+        return found == calls
+    located = rejected or fields(lambda *it: validators.locate_prefix(*it)[0], name, data)
+    return found == calls and fields(validators.locate, name, data) == located
 
 
 def have_lengths(validators: Validators, name: str, data: bytes) -> bool:
@@ -65,9 +78,10 @@ def is_as_expected(validators: Validators, columns: list[str]) -> bool:
     status, taken, at, detail = map(int, columns[2].split())
     found, by_decoder = answer(validators.validate_prefix, name, data), answer(validators.decode_check_prefix, name, data)
     is_answered = found == (status, taken, at, detail) and by_decoder == (status, taken, None if status else 0, detail)
+    is_answered = is_answered and is_whole_alike(validators, name, data, (status, taken, at, detail))
     if is_answered and are_placed(validators, name, data, columns) and (status or have_lengths(validators, name, data)):
         return True
-    print(f"{name} {columns[1]}: {found}, by the decoder {by_decoder}, and not {columns[2:]}, or its fields are elsewhere")
+    print(f"{name} {columns[1]}: {found}, by the decoder {by_decoder}, and not {columns[2:]}, or its fields or rests have another answer")
     return False
 
 
@@ -168,8 +182,8 @@ def are_names_listed(validators: Validators) -> bool:
     called = ["mls_message_validate_prefix", "mls_framed_content_tbs_encode"]
     is_lacking = lacking == [f"this shared object has no {it!r}" for it in called]
     words = [set(re.findall(r"\w+", it)) for it in said]
-    listed = ["mls_ratchet_tree", "mls_key_package", "mls_extension", "mls_message_wire_format", "tls13_alert"]
-    is_short = "mls_key_package_locate" not in words[1] and "mls_message" not in words[2]
+    listed = ["mls_ratchet_tree", "mls_key_package", "mls_extension", "mls_message_wire_format_prefix", "tls13_alert"]
+    is_short = "mls_key_package_locate_prefix" not in words[1] and "mls_message" not in words[2]
     return is_lacking and is_short and all(one in it for one, it in zip(listed, words))
 
 

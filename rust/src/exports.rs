@@ -70,7 +70,7 @@ pub struct Span {
 /// Checks without allocation whether bytes begin with a variable-length integer, or with bytes
 /// after a length.
 pub mod lengths {
-    use crate::{Rejected, Span, split, split_as, whole};
+    use crate::{Rejected, Span, nothing_left, split, split_as, whole};
 
     mod foreign {
         use crate::{Outcome, Span};
@@ -78,10 +78,10 @@ pub mod lengths {
         #[link(name = "tls_codec_lengths", kind = "static")]
         unsafe extern "C" {
             pub fn tls_codec_varint_validate_prefix(bytes: *const u8, length: usize) -> Outcome;
-            pub fn tls_codec_opaque_v_locate(bytes: *const u8, length: usize, content: &mut Span) -> Outcome;
-            pub fn tls_codec_opaque_u8_locate(bytes: *const u8, length: usize, content: &mut Span) -> Outcome;
-            pub fn tls_codec_opaque_u16_locate(bytes: *const u8, length: usize, content: &mut Span) -> Outcome;
-            pub fn tls_codec_opaque_u24_locate(bytes: *const u8, length: usize, content: &mut Span) -> Outcome;
+            pub fn tls_codec_opaque_v_locate_prefix(bytes: *const u8, length: usize, content: &mut Span) -> Outcome;
+            pub fn tls_codec_opaque_u8_locate_prefix(bytes: *const u8, length: usize, content: &mut Span) -> Outcome;
+            pub fn tls_codec_opaque_u16_locate_prefix(bytes: *const u8, length: usize, content: &mut Span) -> Outcome;
+            pub fn tls_codec_opaque_u24_locate_prefix(bytes: *const u8, length: usize, content: &mut Span) -> Outcome;
         }
     }
 
@@ -98,45 +98,69 @@ pub mod lengths {
     }
 
     /// `opaque content<V>` (RFC 9420, section 2.1.2), and where its content is. A list `<V>` has
+    /// its elements there. Returns that content, if no bytes are left.
+    pub fn locate_opaque_v(bytes: &[u8]) -> Result<&[u8], Rejected> {
+        nothing_left(bytes, locate_opaque_v_prefix(bytes)?)
+    }
+
+    /// `opaque content<V>` (RFC 9420, section 2.1.2), and where its content is. A list `<V>` has
     /// its elements there. Returns that content, and the rest of the bytes.
-    pub fn locate_opaque_v(bytes: &[u8]) -> Result<(&[u8], &[u8]), Rejected> {
+    pub fn locate_opaque_v_prefix(bytes: &[u8]) -> Result<(&[u8], &[u8]), Rejected> {
         let mut found = Span::default();
         // SAFETY: the pointer and the length are of one slice, nothing changes it during the call,
         // and the call keeps no pointer.
-        let outcome = unsafe { foreign::tls_codec_opaque_v_locate(bytes.as_ptr(), bytes.len(), &mut found) };
+        let outcome = unsafe { foreign::tls_codec_opaque_v_locate_prefix(bytes.as_ptr(), bytes.len(), &mut found) };
         let (_, rest) = split_as(bytes, outcome)?;
         Ok((found.of(bytes), rest))
     }
 
     /// `opaque content<0..2^8-1>` (RFC 8446, section 3.4), and where its content is. Returns that
+    /// content, if no bytes are left.
+    pub fn locate_opaque_u8(bytes: &[u8]) -> Result<&[u8], Rejected> {
+        nothing_left(bytes, locate_opaque_u8_prefix(bytes)?)
+    }
+
+    /// `opaque content<0..2^8-1>` (RFC 8446, section 3.4), and where its content is. Returns that
     /// content, and the rest of the bytes.
-    pub fn locate_opaque_u8(bytes: &[u8]) -> Result<(&[u8], &[u8]), Rejected> {
+    pub fn locate_opaque_u8_prefix(bytes: &[u8]) -> Result<(&[u8], &[u8]), Rejected> {
         let mut found = Span::default();
         // SAFETY: the pointer and the length are of one slice, nothing changes it during the call,
         // and the call keeps no pointer.
-        let outcome = unsafe { foreign::tls_codec_opaque_u8_locate(bytes.as_ptr(), bytes.len(), &mut found) };
+        let outcome = unsafe { foreign::tls_codec_opaque_u8_locate_prefix(bytes.as_ptr(), bytes.len(), &mut found) };
         let (_, rest) = split_as(bytes, outcome)?;
         Ok((found.of(bytes), rest))
+    }
+
+    /// `opaque content<0..2^16-1>`, and where its content is. Returns that content, if no bytes are
+    /// left.
+    pub fn locate_opaque_u16(bytes: &[u8]) -> Result<&[u8], Rejected> {
+        nothing_left(bytes, locate_opaque_u16_prefix(bytes)?)
     }
 
     /// `opaque content<0..2^16-1>`, and where its content is. Returns that content, and the rest of
     /// the bytes.
-    pub fn locate_opaque_u16(bytes: &[u8]) -> Result<(&[u8], &[u8]), Rejected> {
+    pub fn locate_opaque_u16_prefix(bytes: &[u8]) -> Result<(&[u8], &[u8]), Rejected> {
         let mut found = Span::default();
         // SAFETY: the pointer and the length are of one slice, nothing changes it during the call,
         // and the call keeps no pointer.
-        let outcome = unsafe { foreign::tls_codec_opaque_u16_locate(bytes.as_ptr(), bytes.len(), &mut found) };
+        let outcome = unsafe { foreign::tls_codec_opaque_u16_locate_prefix(bytes.as_ptr(), bytes.len(), &mut found) };
         let (_, rest) = split_as(bytes, outcome)?;
         Ok((found.of(bytes), rest))
     }
 
+    /// `opaque content<0..2^24-1>`, and where its content is. Returns that content, if no bytes are
+    /// left.
+    pub fn locate_opaque_u24(bytes: &[u8]) -> Result<&[u8], Rejected> {
+        nothing_left(bytes, locate_opaque_u24_prefix(bytes)?)
+    }
+
     /// `opaque content<0..2^24-1>`, and where its content is. Returns that content, and the rest of
     /// the bytes.
-    pub fn locate_opaque_u24(bytes: &[u8]) -> Result<(&[u8], &[u8]), Rejected> {
+    pub fn locate_opaque_u24_prefix(bytes: &[u8]) -> Result<(&[u8], &[u8]), Rejected> {
         let mut found = Span::default();
         // SAFETY: the pointer and the length are of one slice, nothing changes it during the call,
         // and the call keeps no pointer.
-        let outcome = unsafe { foreign::tls_codec_opaque_u24_locate(bytes.as_ptr(), bytes.len(), &mut found) };
+        let outcome = unsafe { foreign::tls_codec_opaque_u24_locate_prefix(bytes.as_ptr(), bytes.len(), &mut found) };
         let (_, rest) = split_as(bytes, outcome)?;
         Ok((found.of(bytes), rest))
     }
@@ -144,7 +168,7 @@ pub mod lengths {
 
 /// Checks without allocation whether bytes begin with a message of TLS 1.3.
 pub mod tls13 {
-    use crate::{Elements, Rejected, split, split_as, whole};
+    use crate::{Elements, Rejected, nothing_left, split, split_as, whole};
 
     mod foreign {
         use crate::{Outcome, Span};
@@ -269,18 +293,18 @@ pub mod tls13 {
             pub fn tls13_extension_next(bytes: *const u8, length: usize, left: &mut Span, element: &mut Span) -> Outcome;
             pub fn tls13_key_share_entry_next(bytes: *const u8, length: usize, left: &mut Span, element: &mut Span) -> Outcome;
             pub fn tls13_certificate_entry_next(bytes: *const u8, length: usize, left: &mut Span, element: &mut Span) -> Outcome;
-            pub fn tls13_handshake_locate(bytes: *const u8, length: usize, fields: &mut HandshakeFields) -> Outcome;
-            pub fn tls13_client_hello_locate(bytes: *const u8, length: usize, fields: &mut ClientHelloFields) -> Outcome;
-            pub fn tls13_server_hello_locate(bytes: *const u8, length: usize, fields: &mut ServerHelloFields) -> Outcome;
-            pub fn tls13_encrypted_extensions_locate(bytes: *const u8, length: usize, fields: &mut EncryptedExtensionsFields) -> Outcome;
-            pub fn tls13_certificate_request_locate(bytes: *const u8, length: usize, fields: &mut CertificateRequestFields) -> Outcome;
-            pub fn tls13_certificate_locate(bytes: *const u8, length: usize, fields: &mut CertificateFields) -> Outcome;
-            pub fn tls13_certificate_verify_locate(bytes: *const u8, length: usize, fields: &mut CertificateVerifyFields) -> Outcome;
-            pub fn tls13_new_session_ticket_locate(bytes: *const u8, length: usize, fields: &mut NewSessionTicketFields) -> Outcome;
-            pub fn tls13_key_update_locate(bytes: *const u8, length: usize, fields: &mut KeyUpdateFields) -> Outcome;
-            pub fn tls13_tls_plaintext_locate(bytes: *const u8, length: usize, fields: &mut TLSPlaintextFields) -> Outcome;
-            pub fn tls13_tls_ciphertext_locate(bytes: *const u8, length: usize, fields: &mut TLSCiphertextFields) -> Outcome;
-            pub fn tls13_alert_locate(bytes: *const u8, length: usize, fields: &mut AlertFields) -> Outcome;
+            pub fn tls13_handshake_locate_prefix(bytes: *const u8, length: usize, fields: &mut HandshakeFields) -> Outcome;
+            pub fn tls13_client_hello_locate_prefix(bytes: *const u8, length: usize, fields: &mut ClientHelloFields) -> Outcome;
+            pub fn tls13_server_hello_locate_prefix(bytes: *const u8, length: usize, fields: &mut ServerHelloFields) -> Outcome;
+            pub fn tls13_encrypted_extensions_locate_prefix(bytes: *const u8, length: usize, fields: &mut EncryptedExtensionsFields) -> Outcome;
+            pub fn tls13_certificate_request_locate_prefix(bytes: *const u8, length: usize, fields: &mut CertificateRequestFields) -> Outcome;
+            pub fn tls13_certificate_locate_prefix(bytes: *const u8, length: usize, fields: &mut CertificateFields) -> Outcome;
+            pub fn tls13_certificate_verify_locate_prefix(bytes: *const u8, length: usize, fields: &mut CertificateVerifyFields) -> Outcome;
+            pub fn tls13_new_session_ticket_locate_prefix(bytes: *const u8, length: usize, fields: &mut NewSessionTicketFields) -> Outcome;
+            pub fn tls13_key_update_locate_prefix(bytes: *const u8, length: usize, fields: &mut KeyUpdateFields) -> Outcome;
+            pub fn tls13_tls_plaintext_locate_prefix(bytes: *const u8, length: usize, fields: &mut TLSPlaintextFields) -> Outcome;
+            pub fn tls13_tls_ciphertext_locate_prefix(bytes: *const u8, length: usize, fields: &mut TLSCiphertextFields) -> Outcome;
+            pub fn tls13_alert_locate_prefix(bytes: *const u8, length: usize, fields: &mut AlertFields) -> Outcome;
             pub fn tls13_tls_plaintext_validate_prefix(bytes: *const u8, length: usize) -> Outcome;
             pub fn tls13_tls_ciphertext_validate_prefix(bytes: *const u8, length: usize) -> Outcome;
             pub fn tls13_alert_validate_prefix(bytes: *const u8, length: usize) -> Outcome;
@@ -678,13 +702,19 @@ pub mod tls13 {
         pub body: &'a [u8],
     }
 
+    /// `Handshake` (RFC 8446, section 4): returns its fields, if `bytes` are one, with nothing
+    /// after it.
+    pub fn locate_handshake(bytes: &[u8]) -> Result<HandshakeFields<'_>, Rejected> {
+        nothing_left(bytes, locate_handshake_prefix(bytes)?)
+    }
+
     /// `Handshake` (RFC 8446, section 4): returns the fields of the one that `bytes` begin with,
     /// and the rest.
-    pub fn locate_handshake(bytes: &[u8]) -> Result<(HandshakeFields<'_>, &[u8]), Rejected> {
+    pub fn locate_handshake_prefix(bytes: &[u8]) -> Result<(HandshakeFields<'_>, &[u8]), Rejected> {
         let mut found = foreign::HandshakeFields::default();
         // SAFETY: the pointer and the length are of one slice, nothing changes it during the call,
         // and the call keeps no pointer.
-        let outcome = unsafe { foreign::tls13_handshake_locate(bytes.as_ptr(), bytes.len(), &mut found) };
+        let outcome = unsafe { foreign::tls13_handshake_locate_prefix(bytes.as_ptr(), bytes.len(), &mut found) };
         let (_, rest) = split_as(bytes, outcome)?;
         let fields = HandshakeFields {
             msg_type: found.msg_type.of(bytes),
@@ -711,13 +741,19 @@ pub mod tls13 {
         pub extensions: &'a [u8],
     }
 
+    /// `ClientHello` (RFC 8446, section 4.1.2): returns its fields, if `bytes` are one, with
+    /// nothing after it.
+    pub fn locate_client_hello(bytes: &[u8]) -> Result<ClientHelloFields<'_>, Rejected> {
+        nothing_left(bytes, locate_client_hello_prefix(bytes)?)
+    }
+
     /// `ClientHello` (RFC 8446, section 4.1.2): returns the fields of the one that `bytes` begin
     /// with, and the rest.
-    pub fn locate_client_hello(bytes: &[u8]) -> Result<(ClientHelloFields<'_>, &[u8]), Rejected> {
+    pub fn locate_client_hello_prefix(bytes: &[u8]) -> Result<(ClientHelloFields<'_>, &[u8]), Rejected> {
         let mut found = foreign::ClientHelloFields::default();
         // SAFETY: the pointer and the length are of one slice, nothing changes it during the call,
         // and the call keeps no pointer.
-        let outcome = unsafe { foreign::tls13_client_hello_locate(bytes.as_ptr(), bytes.len(), &mut found) };
+        let outcome = unsafe { foreign::tls13_client_hello_locate_prefix(bytes.as_ptr(), bytes.len(), &mut found) };
         let (_, rest) = split_as(bytes, outcome)?;
         let fields = ClientHelloFields {
             legacy_version: found.legacy_version.of(bytes),
@@ -748,13 +784,19 @@ pub mod tls13 {
         pub extensions: &'a [u8],
     }
 
+    /// `ServerHello` (RFC 8446, section 4.1.3): returns its fields, if `bytes` are one, with
+    /// nothing after it.
+    pub fn locate_server_hello(bytes: &[u8]) -> Result<ServerHelloFields<'_>, Rejected> {
+        nothing_left(bytes, locate_server_hello_prefix(bytes)?)
+    }
+
     /// `ServerHello` (RFC 8446, section 4.1.3): returns the fields of the one that `bytes` begin
     /// with, and the rest.
-    pub fn locate_server_hello(bytes: &[u8]) -> Result<(ServerHelloFields<'_>, &[u8]), Rejected> {
+    pub fn locate_server_hello_prefix(bytes: &[u8]) -> Result<(ServerHelloFields<'_>, &[u8]), Rejected> {
         let mut found = foreign::ServerHelloFields::default();
         // SAFETY: the pointer and the length are of one slice, nothing changes it during the call,
         // and the call keeps no pointer.
-        let outcome = unsafe { foreign::tls13_server_hello_locate(bytes.as_ptr(), bytes.len(), &mut found) };
+        let outcome = unsafe { foreign::tls13_server_hello_locate_prefix(bytes.as_ptr(), bytes.len(), &mut found) };
         let (_, rest) = split_as(bytes, outcome)?;
         let fields = ServerHelloFields {
             legacy_version: found.legacy_version.of(bytes),
@@ -774,13 +816,19 @@ pub mod tls13 {
         pub extensions: &'a [u8],
     }
 
+    /// `EncryptedExtensions` (RFC 8446, section 4.3.1): returns its fields, if `bytes` are one,
+    /// with nothing after it.
+    pub fn locate_encrypted_extensions(bytes: &[u8]) -> Result<EncryptedExtensionsFields<'_>, Rejected> {
+        nothing_left(bytes, locate_encrypted_extensions_prefix(bytes)?)
+    }
+
     /// `EncryptedExtensions` (RFC 8446, section 4.3.1): returns the fields of the one that `bytes`
     /// begin with, and the rest.
-    pub fn locate_encrypted_extensions(bytes: &[u8]) -> Result<(EncryptedExtensionsFields<'_>, &[u8]), Rejected> {
+    pub fn locate_encrypted_extensions_prefix(bytes: &[u8]) -> Result<(EncryptedExtensionsFields<'_>, &[u8]), Rejected> {
         let mut found = foreign::EncryptedExtensionsFields::default();
         // SAFETY: the pointer and the length are of one slice, nothing changes it during the call,
         // and the call keeps no pointer.
-        let outcome = unsafe { foreign::tls13_encrypted_extensions_locate(bytes.as_ptr(), bytes.len(), &mut found) };
+        let outcome = unsafe { foreign::tls13_encrypted_extensions_locate_prefix(bytes.as_ptr(), bytes.len(), &mut found) };
         let (_, rest) = split_as(bytes, outcome)?;
         let fields = EncryptedExtensionsFields {
             extensions: found.extensions.of(bytes),
@@ -798,13 +846,19 @@ pub mod tls13 {
         pub extensions: &'a [u8],
     }
 
+    /// `CertificateRequest` (RFC 8446, section 4.3.2): returns its fields, if `bytes` are one, with
+    /// nothing after it.
+    pub fn locate_certificate_request(bytes: &[u8]) -> Result<CertificateRequestFields<'_>, Rejected> {
+        nothing_left(bytes, locate_certificate_request_prefix(bytes)?)
+    }
+
     /// `CertificateRequest` (RFC 8446, section 4.3.2): returns the fields of the one that `bytes`
     /// begin with, and the rest.
-    pub fn locate_certificate_request(bytes: &[u8]) -> Result<(CertificateRequestFields<'_>, &[u8]), Rejected> {
+    pub fn locate_certificate_request_prefix(bytes: &[u8]) -> Result<(CertificateRequestFields<'_>, &[u8]), Rejected> {
         let mut found = foreign::CertificateRequestFields::default();
         // SAFETY: the pointer and the length are of one slice, nothing changes it during the call,
         // and the call keeps no pointer.
-        let outcome = unsafe { foreign::tls13_certificate_request_locate(bytes.as_ptr(), bytes.len(), &mut found) };
+        let outcome = unsafe { foreign::tls13_certificate_request_locate_prefix(bytes.as_ptr(), bytes.len(), &mut found) };
         let (_, rest) = split_as(bytes, outcome)?;
         let fields = CertificateRequestFields {
             certificate_request_context: found.certificate_request_context.of(bytes),
@@ -823,13 +877,19 @@ pub mod tls13 {
         pub certificate_list: &'a [u8],
     }
 
+    /// `Certificate` (RFC 8446, section 4.4.2): returns its fields, if `bytes` are one, with
+    /// nothing after it.
+    pub fn locate_certificate(bytes: &[u8]) -> Result<CertificateFields<'_>, Rejected> {
+        nothing_left(bytes, locate_certificate_prefix(bytes)?)
+    }
+
     /// `Certificate` (RFC 8446, section 4.4.2): returns the fields of the one that `bytes` begin
     /// with, and the rest.
-    pub fn locate_certificate(bytes: &[u8]) -> Result<(CertificateFields<'_>, &[u8]), Rejected> {
+    pub fn locate_certificate_prefix(bytes: &[u8]) -> Result<(CertificateFields<'_>, &[u8]), Rejected> {
         let mut found = foreign::CertificateFields::default();
         // SAFETY: the pointer and the length are of one slice, nothing changes it during the call,
         // and the call keeps no pointer.
-        let outcome = unsafe { foreign::tls13_certificate_locate(bytes.as_ptr(), bytes.len(), &mut found) };
+        let outcome = unsafe { foreign::tls13_certificate_locate_prefix(bytes.as_ptr(), bytes.len(), &mut found) };
         let (_, rest) = split_as(bytes, outcome)?;
         let fields = CertificateFields {
             certificate_request_context: found.certificate_request_context.of(bytes),
@@ -848,13 +908,19 @@ pub mod tls13 {
         pub signature: &'a [u8],
     }
 
+    /// `CertificateVerify` (RFC 8446, section 4.4.3): returns its fields, if `bytes` are one, with
+    /// nothing after it.
+    pub fn locate_certificate_verify(bytes: &[u8]) -> Result<CertificateVerifyFields<'_>, Rejected> {
+        nothing_left(bytes, locate_certificate_verify_prefix(bytes)?)
+    }
+
     /// `CertificateVerify` (RFC 8446, section 4.4.3): returns the fields of the one that `bytes`
     /// begin with, and the rest.
-    pub fn locate_certificate_verify(bytes: &[u8]) -> Result<(CertificateVerifyFields<'_>, &[u8]), Rejected> {
+    pub fn locate_certificate_verify_prefix(bytes: &[u8]) -> Result<(CertificateVerifyFields<'_>, &[u8]), Rejected> {
         let mut found = foreign::CertificateVerifyFields::default();
         // SAFETY: the pointer and the length are of one slice, nothing changes it during the call,
         // and the call keeps no pointer.
-        let outcome = unsafe { foreign::tls13_certificate_verify_locate(bytes.as_ptr(), bytes.len(), &mut found) };
+        let outcome = unsafe { foreign::tls13_certificate_verify_locate_prefix(bytes.as_ptr(), bytes.len(), &mut found) };
         let (_, rest) = split_as(bytes, outcome)?;
         let fields = CertificateVerifyFields {
             algorithm: found.algorithm.of(bytes),
@@ -879,13 +945,19 @@ pub mod tls13 {
         pub extensions: &'a [u8],
     }
 
+    /// `NewSessionTicket` (RFC 8446, section 4.6.1): returns its fields, if `bytes` are one, with
+    /// nothing after it.
+    pub fn locate_new_session_ticket(bytes: &[u8]) -> Result<NewSessionTicketFields<'_>, Rejected> {
+        nothing_left(bytes, locate_new_session_ticket_prefix(bytes)?)
+    }
+
     /// `NewSessionTicket` (RFC 8446, section 4.6.1): returns the fields of the one that `bytes`
     /// begin with, and the rest.
-    pub fn locate_new_session_ticket(bytes: &[u8]) -> Result<(NewSessionTicketFields<'_>, &[u8]), Rejected> {
+    pub fn locate_new_session_ticket_prefix(bytes: &[u8]) -> Result<(NewSessionTicketFields<'_>, &[u8]), Rejected> {
         let mut found = foreign::NewSessionTicketFields::default();
         // SAFETY: the pointer and the length are of one slice, nothing changes it during the call,
         // and the call keeps no pointer.
-        let outcome = unsafe { foreign::tls13_new_session_ticket_locate(bytes.as_ptr(), bytes.len(), &mut found) };
+        let outcome = unsafe { foreign::tls13_new_session_ticket_locate_prefix(bytes.as_ptr(), bytes.len(), &mut found) };
         let (_, rest) = split_as(bytes, outcome)?;
         let fields = NewSessionTicketFields {
             ticket_lifetime: found.ticket_lifetime.of(bytes),
@@ -904,13 +976,19 @@ pub mod tls13 {
         pub request_update: &'a [u8],
     }
 
+    /// `KeyUpdate` (RFC 8446, section 4.6.3): returns its fields, if `bytes` are one, with nothing
+    /// after it.
+    pub fn locate_key_update(bytes: &[u8]) -> Result<KeyUpdateFields<'_>, Rejected> {
+        nothing_left(bytes, locate_key_update_prefix(bytes)?)
+    }
+
     /// `KeyUpdate` (RFC 8446, section 4.6.3): returns the fields of the one that `bytes` begin
     /// with, and the rest.
-    pub fn locate_key_update(bytes: &[u8]) -> Result<(KeyUpdateFields<'_>, &[u8]), Rejected> {
+    pub fn locate_key_update_prefix(bytes: &[u8]) -> Result<(KeyUpdateFields<'_>, &[u8]), Rejected> {
         let mut found = foreign::KeyUpdateFields::default();
         // SAFETY: the pointer and the length are of one slice, nothing changes it during the call,
         // and the call keeps no pointer.
-        let outcome = unsafe { foreign::tls13_key_update_locate(bytes.as_ptr(), bytes.len(), &mut found) };
+        let outcome = unsafe { foreign::tls13_key_update_locate_prefix(bytes.as_ptr(), bytes.len(), &mut found) };
         let (_, rest) = split_as(bytes, outcome)?;
         let fields = KeyUpdateFields {
             request_update: found.request_update.of(bytes),
@@ -930,13 +1008,19 @@ pub mod tls13 {
         pub fragment: &'a [u8],
     }
 
+    /// `TLSPlaintext` (RFC 8446, section 5.1): returns its fields, if `bytes` are one, with nothing
+    /// after it.
+    pub fn locate_tls_plaintext(bytes: &[u8]) -> Result<TLSPlaintextFields<'_>, Rejected> {
+        nothing_left(bytes, locate_tls_plaintext_prefix(bytes)?)
+    }
+
     /// `TLSPlaintext` (RFC 8446, section 5.1): returns the fields of the one that `bytes` begin
     /// with, and the rest.
-    pub fn locate_tls_plaintext(bytes: &[u8]) -> Result<(TLSPlaintextFields<'_>, &[u8]), Rejected> {
+    pub fn locate_tls_plaintext_prefix(bytes: &[u8]) -> Result<(TLSPlaintextFields<'_>, &[u8]), Rejected> {
         let mut found = foreign::TLSPlaintextFields::default();
         // SAFETY: the pointer and the length are of one slice, nothing changes it during the call,
         // and the call keeps no pointer.
-        let outcome = unsafe { foreign::tls13_tls_plaintext_locate(bytes.as_ptr(), bytes.len(), &mut found) };
+        let outcome = unsafe { foreign::tls13_tls_plaintext_locate_prefix(bytes.as_ptr(), bytes.len(), &mut found) };
         let (_, rest) = split_as(bytes, outcome)?;
         let fields = TLSPlaintextFields {
             r#type: found.r#type.of(bytes),
@@ -958,13 +1042,19 @@ pub mod tls13 {
         pub encrypted_record: &'a [u8],
     }
 
+    /// `TLSCiphertext` (RFC 8446, section 5.2): returns its fields, if `bytes` are one, with
+    /// nothing after it.
+    pub fn locate_tls_ciphertext(bytes: &[u8]) -> Result<TLSCiphertextFields<'_>, Rejected> {
+        nothing_left(bytes, locate_tls_ciphertext_prefix(bytes)?)
+    }
+
     /// `TLSCiphertext` (RFC 8446, section 5.2): returns the fields of the one that `bytes` begin
     /// with, and the rest.
-    pub fn locate_tls_ciphertext(bytes: &[u8]) -> Result<(TLSCiphertextFields<'_>, &[u8]), Rejected> {
+    pub fn locate_tls_ciphertext_prefix(bytes: &[u8]) -> Result<(TLSCiphertextFields<'_>, &[u8]), Rejected> {
         let mut found = foreign::TLSCiphertextFields::default();
         // SAFETY: the pointer and the length are of one slice, nothing changes it during the call,
         // and the call keeps no pointer.
-        let outcome = unsafe { foreign::tls13_tls_ciphertext_locate(bytes.as_ptr(), bytes.len(), &mut found) };
+        let outcome = unsafe { foreign::tls13_tls_ciphertext_locate_prefix(bytes.as_ptr(), bytes.len(), &mut found) };
         let (_, rest) = split_as(bytes, outcome)?;
         let fields = TLSCiphertextFields {
             opaque_type: found.opaque_type.of(bytes),
@@ -983,13 +1073,19 @@ pub mod tls13 {
         pub description: &'a [u8],
     }
 
+    /// `Alert` (RFC 8446, section 6): returns its fields, if `bytes` are one, with nothing after
+    /// it.
+    pub fn locate_alert(bytes: &[u8]) -> Result<AlertFields<'_>, Rejected> {
+        nothing_left(bytes, locate_alert_prefix(bytes)?)
+    }
+
     /// `Alert` (RFC 8446, section 6): returns the fields of the one that `bytes` begin with, and
     /// the rest.
-    pub fn locate_alert(bytes: &[u8]) -> Result<(AlertFields<'_>, &[u8]), Rejected> {
+    pub fn locate_alert_prefix(bytes: &[u8]) -> Result<(AlertFields<'_>, &[u8]), Rejected> {
         let mut found = foreign::AlertFields::default();
         // SAFETY: the pointer and the length are of one slice, nothing changes it during the call,
         // and the call keeps no pointer.
-        let outcome = unsafe { foreign::tls13_alert_locate(bytes.as_ptr(), bytes.len(), &mut found) };
+        let outcome = unsafe { foreign::tls13_alert_locate_prefix(bytes.as_ptr(), bytes.len(), &mut found) };
         let (_, rest) = split_as(bytes, outcome)?;
         let fields = AlertFields {
             level: found.level.of(bytes),
@@ -1192,7 +1288,7 @@ pub mod tls13_check {
 
 /// Checks without allocation whether bytes begin with a message of MLS.
 pub mod mls {
-    use crate::{Elements, Rejected, split, split_as, whole, written_as};
+    use crate::{Elements, Rejected, nothing_left, split, split_as, whole, written_as};
 
     mod foreign {
         use crate::{Outcome, Span};
@@ -1346,19 +1442,19 @@ pub mod mls {
             pub fn mls_optional_node_next(bytes: *const u8, length: usize, left: &mut Span, element: &mut Span) -> Outcome;
             pub fn mls_proposal_or_ref_next(bytes: *const u8, length: usize, left: &mut Span, element: &mut Span) -> Outcome;
             pub fn mls_encrypted_group_secrets_next(bytes: *const u8, length: usize, left: &mut Span, element: &mut Span) -> Outcome;
-            pub fn mls_message_locate(bytes: *const u8, length: usize, fields: &mut MLSMessageFields) -> Outcome;
-            pub fn mls_public_message_locate(bytes: *const u8, length: usize, fields: &mut PublicMessageFields) -> Outcome;
-            pub fn mls_private_message_locate(bytes: *const u8, length: usize, fields: &mut PrivateMessageFields) -> Outcome;
-            pub fn mls_framed_content_locate(bytes: *const u8, length: usize, fields: &mut FramedContentFields) -> Outcome;
-            pub fn mls_sender_data_locate(bytes: *const u8, length: usize, fields: &mut SenderDataFields) -> Outcome;
-            pub fn mls_key_package_locate(bytes: *const u8, length: usize, fields: &mut KeyPackageFields) -> Outcome;
-            pub fn mls_leaf_node_locate(bytes: *const u8, length: usize, fields: &mut LeafNodeFields) -> Outcome;
-            pub fn mls_welcome_locate(bytes: *const u8, length: usize, fields: &mut WelcomeFields) -> Outcome;
-            pub fn mls_group_secrets_locate(bytes: *const u8, length: usize, fields: &mut GroupSecretsFields) -> Outcome;
-            pub fn mls_group_info_locate(bytes: *const u8, length: usize, fields: &mut GroupInfoFields) -> Outcome;
-            pub fn mls_group_context_locate(bytes: *const u8, length: usize, fields: &mut GroupContextFields) -> Outcome;
-            pub fn mls_commit_locate(bytes: *const u8, length: usize, fields: &mut CommitFields) -> Outcome;
-            pub fn mls_proposal_locate(bytes: *const u8, length: usize, fields: &mut ProposalFields) -> Outcome;
+            pub fn mls_message_locate_prefix(bytes: *const u8, length: usize, fields: &mut MLSMessageFields) -> Outcome;
+            pub fn mls_public_message_locate_prefix(bytes: *const u8, length: usize, fields: &mut PublicMessageFields) -> Outcome;
+            pub fn mls_private_message_locate_prefix(bytes: *const u8, length: usize, fields: &mut PrivateMessageFields) -> Outcome;
+            pub fn mls_framed_content_locate_prefix(bytes: *const u8, length: usize, fields: &mut FramedContentFields) -> Outcome;
+            pub fn mls_sender_data_locate_prefix(bytes: *const u8, length: usize, fields: &mut SenderDataFields) -> Outcome;
+            pub fn mls_key_package_locate_prefix(bytes: *const u8, length: usize, fields: &mut KeyPackageFields) -> Outcome;
+            pub fn mls_leaf_node_locate_prefix(bytes: *const u8, length: usize, fields: &mut LeafNodeFields) -> Outcome;
+            pub fn mls_welcome_locate_prefix(bytes: *const u8, length: usize, fields: &mut WelcomeFields) -> Outcome;
+            pub fn mls_group_secrets_locate_prefix(bytes: *const u8, length: usize, fields: &mut GroupSecretsFields) -> Outcome;
+            pub fn mls_group_info_locate_prefix(bytes: *const u8, length: usize, fields: &mut GroupInfoFields) -> Outcome;
+            pub fn mls_group_context_locate_prefix(bytes: *const u8, length: usize, fields: &mut GroupContextFields) -> Outcome;
+            pub fn mls_commit_locate_prefix(bytes: *const u8, length: usize, fields: &mut CommitFields) -> Outcome;
+            pub fn mls_proposal_locate_prefix(bytes: *const u8, length: usize, fields: &mut ProposalFields) -> Outcome;
             pub fn mls_message_validate_prefix(bytes: *const u8, length: usize) -> Outcome;
             pub fn mls_public_message_validate_prefix(bytes: *const u8, length: usize) -> Outcome;
             pub fn mls_private_message_validate_prefix(bytes: *const u8, length: usize) -> Outcome;
@@ -1382,7 +1478,7 @@ pub mod mls {
                 out: *mut u8,
                 out_length: usize,
             ) -> Outcome;
-            pub fn mls_message_wire_format(bytes: *const u8, length: usize, wire_format: &mut u16) -> Outcome;
+            pub fn mls_message_wire_format_prefix(bytes: *const u8, length: usize, wire_format: &mut u16) -> Outcome;
         }
     }
 
@@ -1677,13 +1773,19 @@ pub mod mls {
         pub body: &'a [u8],
     }
 
+    /// `MLSMessage` (RFC 9420, section 6): returns its fields, if `bytes` are one, with nothing
+    /// after it.
+    pub fn locate_message(bytes: &[u8]) -> Result<MLSMessageFields<'_>, Rejected> {
+        nothing_left(bytes, locate_message_prefix(bytes)?)
+    }
+
     /// `MLSMessage` (RFC 9420, section 6): returns the fields of the one that `bytes` begin with,
     /// and the rest.
-    pub fn locate_message(bytes: &[u8]) -> Result<(MLSMessageFields<'_>, &[u8]), Rejected> {
+    pub fn locate_message_prefix(bytes: &[u8]) -> Result<(MLSMessageFields<'_>, &[u8]), Rejected> {
         let mut found = foreign::MLSMessageFields::default();
         // SAFETY: the pointer and the length are of one slice, nothing changes it during the call,
         // and the call keeps no pointer.
-        let outcome = unsafe { foreign::mls_message_locate(bytes.as_ptr(), bytes.len(), &mut found) };
+        let outcome = unsafe { foreign::mls_message_locate_prefix(bytes.as_ptr(), bytes.len(), &mut found) };
         let (_, rest) = split_as(bytes, outcome)?;
         let fields = MLSMessageFields {
             version: found.version.of(bytes),
@@ -1705,13 +1807,19 @@ pub mod mls {
         pub membership_tag: &'a [u8],
     }
 
+    /// `PublicMessage` (RFC 9420, section 6.2): returns its fields, if `bytes` are one, with
+    /// nothing after it.
+    pub fn locate_public_message(bytes: &[u8]) -> Result<PublicMessageFields<'_>, Rejected> {
+        nothing_left(bytes, locate_public_message_prefix(bytes)?)
+    }
+
     /// `PublicMessage` (RFC 9420, section 6.2): returns the fields of the one that `bytes` begin
     /// with, and the rest.
-    pub fn locate_public_message(bytes: &[u8]) -> Result<(PublicMessageFields<'_>, &[u8]), Rejected> {
+    pub fn locate_public_message_prefix(bytes: &[u8]) -> Result<(PublicMessageFields<'_>, &[u8]), Rejected> {
         let mut found = foreign::PublicMessageFields::default();
         // SAFETY: the pointer and the length are of one slice, nothing changes it during the call,
         // and the call keeps no pointer.
-        let outcome = unsafe { foreign::mls_public_message_locate(bytes.as_ptr(), bytes.len(), &mut found) };
+        let outcome = unsafe { foreign::mls_public_message_locate_prefix(bytes.as_ptr(), bytes.len(), &mut found) };
         let (_, rest) = split_as(bytes, outcome)?;
         let fields = PublicMessageFields {
             content: found.content.of(bytes),
@@ -1739,13 +1847,19 @@ pub mod mls {
         pub ciphertext: &'a [u8],
     }
 
+    /// `PrivateMessage` (RFC 9420, section 6.3): returns its fields, if `bytes` are one, with
+    /// nothing after it.
+    pub fn locate_private_message(bytes: &[u8]) -> Result<PrivateMessageFields<'_>, Rejected> {
+        nothing_left(bytes, locate_private_message_prefix(bytes)?)
+    }
+
     /// `PrivateMessage` (RFC 9420, section 6.3): returns the fields of the one that `bytes` begin
     /// with, and the rest.
-    pub fn locate_private_message(bytes: &[u8]) -> Result<(PrivateMessageFields<'_>, &[u8]), Rejected> {
+    pub fn locate_private_message_prefix(bytes: &[u8]) -> Result<(PrivateMessageFields<'_>, &[u8]), Rejected> {
         let mut found = foreign::PrivateMessageFields::default();
         // SAFETY: the pointer and the length are of one slice, nothing changes it during the call,
         // and the call keeps no pointer.
-        let outcome = unsafe { foreign::mls_private_message_locate(bytes.as_ptr(), bytes.len(), &mut found) };
+        let outcome = unsafe { foreign::mls_private_message_locate_prefix(bytes.as_ptr(), bytes.len(), &mut found) };
         let (_, rest) = split_as(bytes, outcome)?;
         let fields = PrivateMessageFields {
             group_id: found.group_id.of(bytes),
@@ -1777,13 +1891,19 @@ pub mod mls {
         pub body: &'a [u8],
     }
 
+    /// `FramedContent` (RFC 9420, section 6), with which a `PublicMessage` begins: returns its
+    /// fields, if `bytes` are one, with nothing after it.
+    pub fn locate_framed_content(bytes: &[u8]) -> Result<FramedContentFields<'_>, Rejected> {
+        nothing_left(bytes, locate_framed_content_prefix(bytes)?)
+    }
+
     /// `FramedContent` (RFC 9420, section 6), with which a `PublicMessage` begins: returns the
     /// fields of the one that `bytes` begin with, and the rest.
-    pub fn locate_framed_content(bytes: &[u8]) -> Result<(FramedContentFields<'_>, &[u8]), Rejected> {
+    pub fn locate_framed_content_prefix(bytes: &[u8]) -> Result<(FramedContentFields<'_>, &[u8]), Rejected> {
         let mut found = foreign::FramedContentFields::default();
         // SAFETY: the pointer and the length are of one slice, nothing changes it during the call,
         // and the call keeps no pointer.
-        let outcome = unsafe { foreign::mls_framed_content_locate(bytes.as_ptr(), bytes.len(), &mut found) };
+        let outcome = unsafe { foreign::mls_framed_content_locate_prefix(bytes.as_ptr(), bytes.len(), &mut found) };
         let (_, rest) = split_as(bytes, outcome)?;
         let fields = FramedContentFields {
             group_id: found.group_id.of(bytes),
@@ -1807,13 +1927,19 @@ pub mod mls {
         pub reuse_guard: &'a [u8],
     }
 
+    /// `SenderData` (RFC 9420, section 6.3.2): returns its fields, if `bytes` are one, with nothing
+    /// after it.
+    pub fn locate_sender_data(bytes: &[u8]) -> Result<SenderDataFields<'_>, Rejected> {
+        nothing_left(bytes, locate_sender_data_prefix(bytes)?)
+    }
+
     /// `SenderData` (RFC 9420, section 6.3.2): returns the fields of the one that `bytes` begin
     /// with, and the rest.
-    pub fn locate_sender_data(bytes: &[u8]) -> Result<(SenderDataFields<'_>, &[u8]), Rejected> {
+    pub fn locate_sender_data_prefix(bytes: &[u8]) -> Result<(SenderDataFields<'_>, &[u8]), Rejected> {
         let mut found = foreign::SenderDataFields::default();
         // SAFETY: the pointer and the length are of one slice, nothing changes it during the call,
         // and the call keeps no pointer.
-        let outcome = unsafe { foreign::mls_sender_data_locate(bytes.as_ptr(), bytes.len(), &mut found) };
+        let outcome = unsafe { foreign::mls_sender_data_locate_prefix(bytes.as_ptr(), bytes.len(), &mut found) };
         let (_, rest) = split_as(bytes, outcome)?;
         let fields = SenderDataFields {
             leaf_index: found.leaf_index.of(bytes),
@@ -1841,13 +1967,19 @@ pub mod mls {
         pub signature: &'a [u8],
     }
 
+    /// `KeyPackage` (RFC 9420, section 10): returns its fields, if `bytes` are one, with nothing
+    /// after it.
+    pub fn locate_key_package(bytes: &[u8]) -> Result<KeyPackageFields<'_>, Rejected> {
+        nothing_left(bytes, locate_key_package_prefix(bytes)?)
+    }
+
     /// `KeyPackage` (RFC 9420, section 10): returns the fields of the one that `bytes` begin with,
     /// and the rest.
-    pub fn locate_key_package(bytes: &[u8]) -> Result<(KeyPackageFields<'_>, &[u8]), Rejected> {
+    pub fn locate_key_package_prefix(bytes: &[u8]) -> Result<(KeyPackageFields<'_>, &[u8]), Rejected> {
         let mut found = foreign::KeyPackageFields::default();
         // SAFETY: the pointer and the length are of one slice, nothing changes it during the call,
         // and the call keeps no pointer.
-        let outcome = unsafe { foreign::mls_key_package_locate(bytes.as_ptr(), bytes.len(), &mut found) };
+        let outcome = unsafe { foreign::mls_key_package_locate_prefix(bytes.as_ptr(), bytes.len(), &mut found) };
         let (_, rest) = split_as(bytes, outcome)?;
         let fields = KeyPackageFields {
             version: found.version.of(bytes),
@@ -1882,13 +2014,19 @@ pub mod mls {
         pub signature: &'a [u8],
     }
 
+    /// `LeafNode` (RFC 9420, section 7.2): returns its fields, if `bytes` are one, with nothing
+    /// after it.
+    pub fn locate_leaf_node(bytes: &[u8]) -> Result<LeafNodeFields<'_>, Rejected> {
+        nothing_left(bytes, locate_leaf_node_prefix(bytes)?)
+    }
+
     /// `LeafNode` (RFC 9420, section 7.2): returns the fields of the one that `bytes` begin with,
     /// and the rest.
-    pub fn locate_leaf_node(bytes: &[u8]) -> Result<(LeafNodeFields<'_>, &[u8]), Rejected> {
+    pub fn locate_leaf_node_prefix(bytes: &[u8]) -> Result<(LeafNodeFields<'_>, &[u8]), Rejected> {
         let mut found = foreign::LeafNodeFields::default();
         // SAFETY: the pointer and the length are of one slice, nothing changes it during the call,
         // and the call keeps no pointer.
-        let outcome = unsafe { foreign::mls_leaf_node_locate(bytes.as_ptr(), bytes.len(), &mut found) };
+        let outcome = unsafe { foreign::mls_leaf_node_locate_prefix(bytes.as_ptr(), bytes.len(), &mut found) };
         let (_, rest) = split_as(bytes, outcome)?;
         let fields = LeafNodeFields {
             encryption_key: found.encryption_key.of(bytes),
@@ -1915,13 +2053,19 @@ pub mod mls {
         pub encrypted_group_info: &'a [u8],
     }
 
+    /// `Welcome` (RFC 9420, section 12.4.3.1): returns its fields, if `bytes` are one, with nothing
+    /// after it.
+    pub fn locate_welcome(bytes: &[u8]) -> Result<WelcomeFields<'_>, Rejected> {
+        nothing_left(bytes, locate_welcome_prefix(bytes)?)
+    }
+
     /// `Welcome` (RFC 9420, section 12.4.3.1): returns the fields of the one that `bytes` begin
     /// with, and the rest.
-    pub fn locate_welcome(bytes: &[u8]) -> Result<(WelcomeFields<'_>, &[u8]), Rejected> {
+    pub fn locate_welcome_prefix(bytes: &[u8]) -> Result<(WelcomeFields<'_>, &[u8]), Rejected> {
         let mut found = foreign::WelcomeFields::default();
         // SAFETY: the pointer and the length are of one slice, nothing changes it during the call,
         // and the call keeps no pointer.
-        let outcome = unsafe { foreign::mls_welcome_locate(bytes.as_ptr(), bytes.len(), &mut found) };
+        let outcome = unsafe { foreign::mls_welcome_locate_prefix(bytes.as_ptr(), bytes.len(), &mut found) };
         let (_, rest) = split_as(bytes, outcome)?;
         let fields = WelcomeFields {
             cipher_suite: found.cipher_suite.of(bytes),
@@ -1943,13 +2087,19 @@ pub mod mls {
         pub psks: &'a [u8],
     }
 
+    /// `GroupSecrets` (RFC 9420, section 12.4.3.1): returns its fields, if `bytes` are one, with
+    /// nothing after it.
+    pub fn locate_group_secrets(bytes: &[u8]) -> Result<GroupSecretsFields<'_>, Rejected> {
+        nothing_left(bytes, locate_group_secrets_prefix(bytes)?)
+    }
+
     /// `GroupSecrets` (RFC 9420, section 12.4.3.1): returns the fields of the one that `bytes`
     /// begin with, and the rest.
-    pub fn locate_group_secrets(bytes: &[u8]) -> Result<(GroupSecretsFields<'_>, &[u8]), Rejected> {
+    pub fn locate_group_secrets_prefix(bytes: &[u8]) -> Result<(GroupSecretsFields<'_>, &[u8]), Rejected> {
         let mut found = foreign::GroupSecretsFields::default();
         // SAFETY: the pointer and the length are of one slice, nothing changes it during the call,
         // and the call keeps no pointer.
-        let outcome = unsafe { foreign::mls_group_secrets_locate(bytes.as_ptr(), bytes.len(), &mut found) };
+        let outcome = unsafe { foreign::mls_group_secrets_locate_prefix(bytes.as_ptr(), bytes.len(), &mut found) };
         let (_, rest) = split_as(bytes, outcome)?;
         let fields = GroupSecretsFields {
             joiner_secret: found.joiner_secret.of(bytes),
@@ -1975,13 +2125,19 @@ pub mod mls {
         pub signature: &'a [u8],
     }
 
+    /// `GroupInfo` (RFC 9420, section 12.4.3): returns its fields, if `bytes` are one, with nothing
+    /// after it.
+    pub fn locate_group_info(bytes: &[u8]) -> Result<GroupInfoFields<'_>, Rejected> {
+        nothing_left(bytes, locate_group_info_prefix(bytes)?)
+    }
+
     /// `GroupInfo` (RFC 9420, section 12.4.3): returns the fields of the one that `bytes` begin
     /// with, and the rest.
-    pub fn locate_group_info(bytes: &[u8]) -> Result<(GroupInfoFields<'_>, &[u8]), Rejected> {
+    pub fn locate_group_info_prefix(bytes: &[u8]) -> Result<(GroupInfoFields<'_>, &[u8]), Rejected> {
         let mut found = foreign::GroupInfoFields::default();
         // SAFETY: the pointer and the length are of one slice, nothing changes it during the call,
         // and the call keeps no pointer.
-        let outcome = unsafe { foreign::mls_group_info_locate(bytes.as_ptr(), bytes.len(), &mut found) };
+        let outcome = unsafe { foreign::mls_group_info_locate_prefix(bytes.as_ptr(), bytes.len(), &mut found) };
         let (_, rest) = split_as(bytes, outcome)?;
         let fields = GroupInfoFields {
             group_context: found.group_context.of(bytes),
@@ -2013,13 +2169,19 @@ pub mod mls {
         pub extensions: &'a [u8],
     }
 
+    /// `GroupContext` (RFC 9420, section 8.1): returns its fields, if `bytes` are one, with nothing
+    /// after it.
+    pub fn locate_group_context(bytes: &[u8]) -> Result<GroupContextFields<'_>, Rejected> {
+        nothing_left(bytes, locate_group_context_prefix(bytes)?)
+    }
+
     /// `GroupContext` (RFC 9420, section 8.1): returns the fields of the one that `bytes` begin
     /// with, and the rest.
-    pub fn locate_group_context(bytes: &[u8]) -> Result<(GroupContextFields<'_>, &[u8]), Rejected> {
+    pub fn locate_group_context_prefix(bytes: &[u8]) -> Result<(GroupContextFields<'_>, &[u8]), Rejected> {
         let mut found = foreign::GroupContextFields::default();
         // SAFETY: the pointer and the length are of one slice, nothing changes it during the call,
         // and the call keeps no pointer.
-        let outcome = unsafe { foreign::mls_group_context_locate(bytes.as_ptr(), bytes.len(), &mut found) };
+        let outcome = unsafe { foreign::mls_group_context_locate_prefix(bytes.as_ptr(), bytes.len(), &mut found) };
         let (_, rest) = split_as(bytes, outcome)?;
         let fields = GroupContextFields {
             version: found.version.of(bytes),
@@ -2042,13 +2204,19 @@ pub mod mls {
         pub path: &'a [u8],
     }
 
+    /// `Commit` (RFC 9420, section 12.4): returns its fields, if `bytes` are one, with nothing
+    /// after it.
+    pub fn locate_commit(bytes: &[u8]) -> Result<CommitFields<'_>, Rejected> {
+        nothing_left(bytes, locate_commit_prefix(bytes)?)
+    }
+
     /// `Commit` (RFC 9420, section 12.4): returns the fields of the one that `bytes` begin with,
     /// and the rest.
-    pub fn locate_commit(bytes: &[u8]) -> Result<(CommitFields<'_>, &[u8]), Rejected> {
+    pub fn locate_commit_prefix(bytes: &[u8]) -> Result<(CommitFields<'_>, &[u8]), Rejected> {
         let mut found = foreign::CommitFields::default();
         // SAFETY: the pointer and the length are of one slice, nothing changes it during the call,
         // and the call keeps no pointer.
-        let outcome = unsafe { foreign::mls_commit_locate(bytes.as_ptr(), bytes.len(), &mut found) };
+        let outcome = unsafe { foreign::mls_commit_locate_prefix(bytes.as_ptr(), bytes.len(), &mut found) };
         let (_, rest) = split_as(bytes, outcome)?;
         let fields = CommitFields {
             proposals: found.proposals.of(bytes),
@@ -2066,13 +2234,19 @@ pub mod mls {
         pub body: &'a [u8],
     }
 
+    /// `Proposal` (RFC 9420, section 12.1): returns its fields, if `bytes` are one, with nothing
+    /// after it.
+    pub fn locate_proposal(bytes: &[u8]) -> Result<ProposalFields<'_>, Rejected> {
+        nothing_left(bytes, locate_proposal_prefix(bytes)?)
+    }
+
     /// `Proposal` (RFC 9420, section 12.1): returns the fields of the one that `bytes` begin with,
     /// and the rest.
-    pub fn locate_proposal(bytes: &[u8]) -> Result<(ProposalFields<'_>, &[u8]), Rejected> {
+    pub fn locate_proposal_prefix(bytes: &[u8]) -> Result<(ProposalFields<'_>, &[u8]), Rejected> {
         let mut found = foreign::ProposalFields::default();
         // SAFETY: the pointer and the length are of one slice, nothing changes it during the call,
         // and the call keeps no pointer.
-        let outcome = unsafe { foreign::mls_proposal_locate(bytes.as_ptr(), bytes.len(), &mut found) };
+        let outcome = unsafe { foreign::mls_proposal_locate_prefix(bytes.as_ptr(), bytes.len(), &mut found) };
         let (_, rest) = split_as(bytes, outcome)?;
         let fields = ProposalFields {
             proposal_type: found.proposal_type.of(bytes),
@@ -2082,13 +2256,20 @@ pub mod mls {
     }
 
     /// `MLSMessage` (RFC 9420, section 6), and its `WireFormat`: 1 is a public message, 2 a private
+    /// message, 3 a welcome, 4 a group info, 5 a key package. Returns that number, if no bytes are
+    /// left.
+    pub fn message_wire_format(bytes: &[u8]) -> Result<u16, Rejected> {
+        nothing_left(bytes, message_wire_format_prefix(bytes)?)
+    }
+
+    /// `MLSMessage` (RFC 9420, section 6), and its `WireFormat`: 1 is a public message, 2 a private
     /// message, 3 a welcome, 4 a group info, 5 a key package. Returns that number, and the rest of
     /// the bytes.
-    pub fn message_wire_format(bytes: &[u8]) -> Result<(u16, &[u8]), Rejected> {
+    pub fn message_wire_format_prefix(bytes: &[u8]) -> Result<(u16, &[u8]), Rejected> {
         let mut found = 0u16;
         // SAFETY: the pointer and the length are of one slice, nothing changes it during the call,
         // and the call keeps no pointer.
-        let outcome = unsafe { foreign::mls_message_wire_format(bytes.as_ptr(), bytes.len(), &mut found) };
+        let outcome = unsafe { foreign::mls_message_wire_format_prefix(bytes.as_ptr(), bytes.len(), &mut found) };
         let (_, rest) = split_as(bytes, outcome)?;
         Ok((found, rest))
     }

@@ -20,8 +20,8 @@
 //! assert_eq!(tls13::validate_alert(&[2]), Err(cut));
 //! ```
 //!
-//! `validate_NAME` and `decode_check_NAME` need all of the bytes to be one message. Each other function accepts bytes that come after it:
-//! `validate_NAME_prefix`, `decode_check_NAME_prefix`, `locate_NAME` and `message_wire_format` return them.
+//! A function needs all of the bytes to be one message; with `_prefix`, such as `validate_NAME_prefix` and `locate_NAME_prefix`, it
+//! accepts bytes that come after the message, and returns them.
 #![no_std]
 #![deny(missing_docs, missing_debug_implementations)]
 
@@ -92,15 +92,15 @@ type Call = unsafe extern "C" fn(*const u8, usize) -> Outcome;
 
 /// Whether a call accepts all of the bytes.
 fn whole(bytes: &[u8], call: Call) -> Result<(), Rejected> {
-    nothing_left(split(bytes, call)?).map(|_| ())
+    nothing_left(bytes, split(bytes, call)?).map(|_| ())
 }
 
-/// The message, if nothing comes after it.
-fn nothing_left<'a>((message, rest): (&'a [u8], &'a [u8])) -> Result<&'a [u8], Rejected> {
+/// What was found in the bytes, if there is no rest.
+fn nothing_left<T>(bytes: &[u8], (found, rest): (T, &[u8])) -> Result<T, Rejected> {
     if !rest.is_empty() {
-        return Err(Rejected { error: Error::TrailingData, at: message.len() });
+        return Err(Rejected { error: Error::TrailingData, at: bytes.len() - rest.len() });
     }
-    Ok(message)
+    Ok(found)
 }
 
 /// What a call says of bytes.
@@ -121,7 +121,8 @@ fn split_as(bytes: &[u8], outcome: Outcome) -> Result<(&[u8], &[u8]), Rejected> 
 /// The bytes that a call wrote, if all of them are accepted.
 fn written_as(out: &mut [u8], size: usize, outcome: Outcome) -> Result<&[u8], Rejected> {
     let out: &[u8] = out;
-    nothing_left(split_as(out.get(..size).unwrap_or(out), outcome)?)
+    let written = out.get(..size).unwrap_or(out);
+    nothing_left(written, split_as(written, outcome)?)
 }
 
 type Next = unsafe extern "C" fn(*const u8, usize, &mut Span, &mut Span) -> Outcome;

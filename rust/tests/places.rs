@@ -5,10 +5,12 @@ mod common;
 
 use common::{bytes_of, error_of};
 use std::fs;
-use tls_codec_validators::{Elements, Rejected, lengths, mls, tls13};
+use tls_codec_validators::{Elements, Error, Rejected, lengths, mls, tls13};
 
+/// What is found in all of the bytes, in order.
+type Whole<'a> = Result<Vec<&'a [u8]>, Rejected>;
 /// What is found, in order, and the rest of the bytes.
-type Found<'a> = Result<(Vec<&'a [u8]>, &'a [u8]), Rejected>;
+type Prefix<'a> = Result<(Vec<&'a [u8]>, &'a [u8]), Rejected>;
 
 /// Writes the function that finds a list's elements, by C's name of the call.
 macro_rules! elements {
@@ -22,25 +24,34 @@ macro_rules! elements {
     };
 }
 
-/// Writes the function that finds a message's fields.
+/// Writes the function that finds a message's fields by both calls, of all of the bytes, and of those that they begin with.
 macro_rules! fields {
-    ($($name:literal: $locate:path, $($field:ident)*;)*) => {
-        fn fields<'a>(name: &str, bytes: &'a [u8]) -> Option<Found<'a>> {
+    ($($name:literal: $locate:path, $prefix:path, $($field:ident)*;)*) => {
+        fn fields<'a>(name: &str, bytes: &'a [u8]) -> Option<(Whole<'a>, Prefix<'a>)> {
             Some(match name {
-                $($name => $locate(bytes).map(|(it, rest)| (vec![$(it.$field),*], rest)),)*
+                $($name => (
+                    $locate(bytes).map(|it| vec![$(it.$field),*]),
+                    $prefix(bytes).map(|(it, rest)| (vec![$(it.$field),*], rest)),
+                ),)*
                 _ => return None,
             })
         }
     };
 }
 
-/// Writes the function that finds the content after a length; nothing is filled of a variable-length integer.
+/// Writes the function that finds the content after a length by both calls; nothing is filled of a variable-length integer.
 macro_rules! content {
-    ($($name:literal: $locate:path;)*) => {
-        fn content<'a>(name: &str, bytes: &'a [u8]) -> Option<Found<'a>> {
+    ($($name:literal: $locate:path, $prefix:path;)*) => {
+        fn content<'a>(name: &str, bytes: &'a [u8]) -> Option<(Whole<'a>, Prefix<'a>)> {
             Some(match name {
-                $($name => $locate(bytes).map(|(content, rest)| (vec![content], rest)),)*
-                "tls_codec_varint_validate_prefix" => lengths::validate_varint_prefix(bytes).map(|(_, rest)| (Vec::new(), rest)),
+                $($name => (
+                    $locate(bytes).map(|content| vec![content]),
+                    $prefix(bytes).map(|(content, rest)| (vec![content], rest)),
+                ),)*
+                "tls_codec_varint_validate_prefix" => (
+                    lengths::validate_varint(bytes).map(|()| Vec::new()),
+                    lengths::validate_varint_prefix(bytes).map(|(_, rest)| (Vec::new(), rest)),
+                ),
                 _ => return None,
             })
         }
@@ -73,7 +84,7 @@ impl Row {
     /// A row of `test_outcome` as one of the call that finds the fields; a `RatchetTree` has none.
     fn of_message(line: &str) -> Option<Row> {
         let columns: Vec<&str> = line.split('\t').collect();
-        let name = format!("{}_locate", columns[0]);
+        let name = format!("{}_locate_prefix", columns[0]);
         let filled = columns.get(4).unwrap_or(&"-");
         (columns[0] != "mls_ratchet_tree").then(|| Row::of(&[&name, columns[1], columns[2], filled].join("\t")))
     }
@@ -114,17 +125,25 @@ impl Row {
         assert_eq!(all.len(), found.len() + usize::from(wanted.is_some()));
     }
 
+    /// What the call that needs all of the bytes returns, and rejects if some are left; and what the call of a prefix returns.
+    fn outcomes<T: Clone>(&self, found: impl Fn() -> T) -> (Result<T, Rejected>, Result<(T, &[u8]), Rejected>) {
+        if !self.is_accepted() {
+            return (Err(self.rejected(0)), Err(self.rejected(0)));
+        }
+        let (found, left) = (found(), Rejected { error: Error::TrailingData, at: self.bytes.len() - self.rest().len() });
+        let whole = if self.rest().is_empty() { Ok(found.clone()) } else { Err(left) };
+        (whole, Ok((found, self.rest())))
+    }
+
     fn has_its_outcome(&self) {
         if let Some(elements) = elements(&self.name, &self.bytes) {
             self.elements_are_in_their_places(elements);
         } else if let Some(found) = fields(&self.name, &self.bytes).or_else(|| content(&self.name, &self.bytes)) {
-            let wanted = if self.is_accepted() { Ok((self.places(), self.rest())) } else { Err(self.rejected(0)) };
-            assert_eq!(found, wanted, "{} {:02x?}", self.name, self.bytes);
+            assert_eq!(found, self.outcomes(|| self.places()), "{} {:02x?}", self.name, self.bytes);
         } else {
-            assert_eq!(self.name, "mls_message_wire_format");
-            let wire_format = || self.filled.parse().expect("a number");
-            let wanted = if self.is_accepted() { Ok((wire_format(), self.rest())) } else { Err(self.rejected(0)) };
-            assert_eq!(mls::message_wire_format(&self.bytes), wanted);
+            assert_eq!(self.name, "mls_message_wire_format_prefix");
+            let found = (mls::message_wire_format(&self.bytes), mls::message_wire_format_prefix(&self.bytes));
+            assert_eq!(found, self.outcomes(|| self.filled.parse().expect("a number")), "{:02x?}", self.bytes);
         }
     }
 }
@@ -151,12 +170,12 @@ fn each_field_of_mls_is_found() {
 #[test]
 fn numbers_have_names() {
     let message = bytes_of("0001000201fa0000000000000007010001a102a2a3");
-    assert_eq!(mls::message_wire_format(&message), Ok((mls::wire_format::PRIVATE_MESSAGE, &[][..])));
-    let (handshake, _) = tls13::locate_handshake(&[24, 0, 0, 1, 1]).expect("a key update");
+    assert_eq!(mls::message_wire_format(&message), Ok(mls::wire_format::PRIVATE_MESSAGE));
+    let handshake = tls13::locate_handshake(&[24, 0, 0, 1, 1]).expect("a key update");
     assert_eq!(handshake.msg_type, [tls13::handshake_type::KEY_UPDATE]);
-    let (update, _) = tls13::locate_key_update(&handshake.body[3..]).expect("its body");
+    let update = tls13::locate_key_update(&handshake.body[3..]).expect("its body");
     assert_eq!(update.request_update, [tls13::key_update_request::UPDATE_REQUESTED]);
-    let (verify, _) = tls13::locate_certificate_verify(&[8, 4, 0, 1, 1]).expect("a signature");
+    let verify = tls13::locate_certificate_verify(&[8, 4, 0, 1, 1]).expect("a signature");
     assert_eq!(verify.algorithm, tls13::signature_scheme::RSA_PSS_RSAE_SHA256.to_be_bytes());
 }
 

@@ -57,7 +57,7 @@ fn rows_have_their_outcomes(file: &str) {
 #[test]
 fn fields_are_slices() {
     let message = bytes_of("01fa0000000000000007010001a102a2a3ee");
-    let (found, rest) = mls::locate_private_message(&message).expect("a message");
+    let (found, rest) = mls::locate_private_message_prefix(&message).expect("a message");
     assert_eq!(found.group_id, [0xfa]);
     assert_eq!(number(found.epoch), Some(7));
     assert_eq!(found.content_type, [mls::content_type::APPLICATION]);
@@ -65,8 +65,9 @@ fn fields_are_slices() {
     assert_eq!(found.encrypted_sender_data, [0xa1]);
     assert_eq!(found.ciphertext, [0xa2, 0xa3]);
     assert_eq!(rest, [0xee]);
-    let cut = mls::locate_private_message(&message[..16]);
-    assert_eq!(cut.map(|_| ()), Err(Rejected { error: Error::DecodingError, at: 14 }));
+    assert_eq!(mls::locate_private_message(&message[..17]), Ok(found));
+    assert_eq!(mls::locate_private_message(&message), Err(Rejected { error: Error::TrailingData, at: 17 }));
+    assert_eq!(mls::locate_private_message(&message[..16]), Err(Rejected { error: Error::DecodingError, at: 14 }));
 }
 
 #[test]
@@ -82,6 +83,11 @@ fn nothing_may_be_left() {
     assert_eq!(mls::validate_message(&[]), Err(none));
     assert_eq!(lengths::validate_varint(&[0x40, 0x40]), Ok(()));
     assert_eq!(lengths::validate_varint(&[0x40, 0x40, 7]), Err(left));
+    assert_eq!(lengths::locate_opaque_u8(&[1, 5]), Ok(&[5][..]));
+    assert_eq!(lengths::locate_opaque_u8(&[1, 5, 7]), Err(left));
+    assert_eq!(lengths::locate_opaque_u8_prefix(&[1, 5, 7]), Ok((&[5][..], &[7][..])));
+    let message = bytes_of("0001000201fa0000000000000007010001a102a2a3ee");
+    assert_eq!(mls::message_wire_format(&message), Err(Rejected { error: Error::TrailingData, at: 21 }));
 }
 
 /// The numbers of RFC 9000, appendix A.1, and the ends of the widths.

@@ -60,7 +60,7 @@ def answered(places: list[pathlib.Path], signed: pathlib.Path) -> set[str]:
     found = {"mls_framed_content_tbs_encode" for it in rows_of(signed) if it[3].startswith("0 ")}
     found |= {it[0] for path in places for it in rows_of(path) if it[2].startswith("0 ")}
     for columns in (it for path in ROWS for it in rows_of(path) if it[2].startswith("0 ")):
-        found |= {f"{columns[0]}_{call}" for call in ("validate_prefix", "decode_check_prefix", *["locate"] * (len(columns) > 4))}
+        found |= {f"{columns[0]}_{call}" for call in ("validate_prefix", "decode_check_prefix", *["locate_prefix"] * (len(columns) > 4))}
     return found
 
 

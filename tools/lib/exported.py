@@ -27,18 +27,12 @@ C = {"u16": "uint16_t", "u32": "uint32_t", "u64": "uint64_t", "usize": "size_t"}
 # The libraries whose structs cross, and what their names begin with in C.
 STRUCTS = {"tls_codec_outcome": "tls_codec", "mls_fields": "mls", "tls13_fields": "tls13"}
 # How the names of calls end, by what they do, in the order of a header.
-CALLS = ("_validate_prefix", "_locate", "_next", "_wire_format", "_encode", "_decode_check_prefix")
-# What a call does, in C, by the end of its name: what is put after its text in the source.
-ASKED = {
-    "_validate_prefix": ": whether the bytes begin with one.",
-    "_decode_check_prefix": ": whether the bytes begin with one, by the decoder.",
-}
-# The same of the header's call that needs all of the bytes, by the end of the name of the export that it calls.
-WHOLE = {
-    "_validate_prefix": ": whether the bytes are one, with nothing after it.",
-    "_decode_check_prefix": ": whether the bytes are one, with nothing after it, by the decoder.",
-}
-FOUND = re.compile(r"(its fields are|its content is)\.")
+CALLS = ("_validate_prefix", "_locate_prefix", "_next", "_wire_format_prefix", "_encode", "_decode_check_prefix")
+# What an export with `_prefix` asks of the bytes, and what the header's call without it does, which needs all of them.
+PREFIX, WHOLE = "the bytes begin with one", "the bytes are one, with nothing after it"
+# The exports that just answer that, by the end of the name, and what C says after it. The text of others with `_prefix` has what is found.
+ASKED = {"_validate_prefix": "", "_decode_check_prefix": ", by the decoder"}
+FOUND = re.compile(r"(its fields are|its content is|its `WireFormat`)(?=[.:])")
 # What C says of the buffers, beside the text in the source.
 POINTERS = (
     " `out_length` has to be at least 4 + `content_length` + `context_length`, the number of bytes that are written. Status 0 says that the"
@@ -105,24 +99,36 @@ class Export:
         """What the call does, as a header says it."""
         if self.call == "_next":
             return f"{self.message()}: the next one of a list."
-        if self.call == "_encode":
-            return self.text + POINTERS
-        asked = ASKED.get(self.call)
-        return self.text.removesuffix(".") + asked if asked else FOUND.sub(r"\1, if the bytes begin with one.", self.text)
+        return self.text + POINTERS if self.call == "_encode" else self.said_if(PREFIX)
+
+    def said_if(self, asked: str) -> str:
+        """What a call does, as a header says it, that asks this of the bytes."""
+        if self.call in ASKED:
+            return f"{self.text.removesuffix('.')}: whether {asked}{ASKED[self.call]}."
+        said, count = FOUND.subn(rf"\1, if {asked}", self.text)
+        if count != 1:
+            raise Failed(f"{self.name}: {count} places of its text say what it finds")
+        return said
 
     def whole_in_c(self) -> list[str]:
-        """The call of a validator or a decoder that needs all of the bytes to be one message."""
-        name = self.name.removesuffix("_prefix")
-        lines = [f"static inline tls_codec_outcome {name}(const uint8_t *bytes, size_t length) {{"]
-        return [*lines, f"  return tls_codec_whole({self.name}(bytes, length), length);", "}"]
+        """The call that needs all of the bytes to be one message: else it fills nothing."""
+        lines = [f"static inline tls_codec_outcome {self.name.removesuffix('_prefix')}({self.words_in_c()}) {{"]
+        if self.call in ASKED:
+            return [*lines, f"  return tls_codec_whole({self.name}(bytes, length), length);", "}"]
+        lines += [f"  {type_in_c(taken_by(self))} found;"]
+        lines += [f"  tls_codec_outcome outcome = tls_codec_whole({self.name}(bytes, length, &found), length);"]
+        return [*lines, f"  if (outcome.status == TLS_CODEC_ACCEPTED) *{self.parameters[1][0]} = found;", "  return outcome;", "}"]
 
     def message(self) -> str:
         """The message, or what else is found, with the section of its RFC."""
         return re.split(r", and where |: the next one", self.text.removesuffix("."))[0]
 
+    def words_in_c(self) -> str:
+        """The parameters of a prototype."""
+        return ", ".join(word for name, kind in self.parameters for word in in_c(name, kind))
+
     def prototype(self) -> str:
-        words = [word for name, kind in self.parameters for word in in_c(name, kind)]
-        return f"{type_in_c(self.result)} {self.name}({', '.join(words)});"
+        return f"{type_in_c(self.result)} {self.name}({self.words_in_c()});"
 
     def declaration(self) -> list[str]:
         words = [word for name, kind in self.parameters for word in in_rust(name, kind)]

@@ -98,11 +98,11 @@ def outcome_header(of_headers: str) -> str:
 def declared(it: Export) -> list[str]:
     """A call in C: the struct that it fills, its prototype, and the call that needs all of the bytes."""
     lines: list[str] = []
-    if it.call == "_locate" and struct_of(taken_by(it)).crate != "tls_codec_outcome":
+    if it.call == "_locate_prefix" and struct_of(taken_by(it)).crate != "tls_codec_outcome":
         lines = ["", *struct_in_c(taken_by(it))]
     lines += ["", *comment(it.in_c()), it.prototype()]
-    if it.call in WHOLE:
-        lines += ["", *comment(it.text.removesuffix(".") + WHOLE[it.call]), *it.whole_in_c()]
+    if it.call.endswith("_prefix"):
+        lines += ["", *comment(it.said_if(WHOLE)), *it.whole_in_c()]
     return lines
 
 
@@ -137,6 +137,6 @@ def table() -> str:
     by_call = {call: [it for it in found if it.call == call] for call in CALLS}
     decoded = {it.subject for it in by_call["_decode_check_prefix"]}
     lines = ["#ifdef MESSAGE", *[f"MESSAGE({it.subject})" for it in by_call["_validate_prefix"] if it.subject in decoded]]
-    lines += ["#endif", "#ifdef LOCATED", *[f"LOCATED({it.subject}, {type_in_c(taken_by(it))})" for it in by_call["_locate"]]]
+    lines += ["#endif", "#ifdef LOCATED", *[f"LOCATED({it.subject}, {type_in_c(taken_by(it))})" for it in by_call["_locate_prefix"]]]
     lines += ["#endif", "#ifdef LISTED", *[f"LISTED({it.subject})" for it in by_call["_next"]]]
     return "\n".join([f"/* {WRITTEN}. Don't edit. */", *lines, "#endif", ""])

@@ -15,12 +15,12 @@ WITH_LENGTH = [
 
 
 def located() -> list[Export]:
-    """All `NAME_locate`."""
-    return [it for crate in libraries() for it in exports_of(crate) if it.call == "_locate"]
+    """All `NAME_locate_prefix`."""
+    return [it for crate in libraries() for it in exports_of(crate) if it.call == "_locate_prefix"]
 
 
 def located_fields() -> dict[str, list[str]]:
-    """What each `NAME_locate` fills, by NAME: the names of its struct's fields in their order, or of the one place."""
+    """What each `NAME_locate_prefix` fills, by NAME: the names of its struct's fields in their order, or of the one place."""
     found = {}
     for it in located():
         fields = [named_as_in_the_rfc(field) for _, field, _ in struct_of(taken_by(it)).fields]
@@ -50,7 +50,7 @@ def exports_python() -> str:
     lines += [f'    "{name}",' for name in ("Accepted", *[name for name, _, _ in numbers()])]
     lines += ["]", "", "# The functions that are given bytes, and then what they fill.", "CALLS = ["]
     lines += [f'    "{it}",' for it in called_by_outcome()]
-    lines += ["]", "", "# What `NAME_locate` fills, in this order, by NAME.", "FIELDS = {"]
+    lines += ["]", "", "# What `NAME_locate_prefix` fills, in this order, by NAME.", "FIELDS = {"]
     lines += [f'    "{message}": {json.dumps(names)},' for message, names in located_fields().items()]
     lines += ["}", "", *WITH_LENGTH, "WITH_LENGTH = {"]
     lines += [f'    "{message}": {json.dumps(names)},' for message, names in fields_with_length().items()]

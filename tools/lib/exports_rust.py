@@ -31,8 +31,8 @@ COMMENT = re.compile(r"( *//[/!]?) (.*)")
 # What the macros for tests pass on, by their names.
 EACH = {
     "message": "message: its name in C, the two functions of its validator, and the two of its decoder",
-    "located": "call that finds fields: its name in C, its function, and its struct's fields in order",
-    "content": "call that finds the content after a length: its name in C, and its function",
+    "located": "call that finds fields: its name in C, its two functions, and its struct's fields in order",
+    "content": "call that finds the content after a length: its name in C, and its two functions",
     "list": "call that finds an element: its name in C, and the function of a list's iterator",
 }
 BREAK = ",\n" + 16 * " "
@@ -67,11 +67,18 @@ def struct_in_rust(kind: str) -> list[str]:
     return [*lines, *[f"    pub {field_in_rust(name)}: {field}," for _, name, field in struct_of(kind).fields], "}"]
 
 
+def whole_in_rust(name: str, text: str, returned: str) -> list[str]:
+    """The function that finds what another one with `_prefix` does, in all of the bytes."""
+    lines = ["", f"    /// {text}", f"    pub fn {name}(bytes: &[u8]) -> Result<{returned}, Rejected> {{"]
+    return [*lines, f"        nothing_left(bytes, {name}_prefix(bytes)?)", "    }"]
+
+
 def found_in_rust(export: Export, name: str, text: str, kinds: tuple[str, str, str]) -> list[str]:
-    """The function that finds one thing: its type, what is passed to be filled, and what is returned of that."""
+    """The two functions that find one thing: its type, what is passed to be filled, and what is returned of that."""
     returned, filled, found = kinds
-    lines = ["", f"    /// {export.text} Returns {text}, and the rest of the bytes."]
-    lines += [f"    pub fn {name}(bytes: &[u8]) -> Result<({returned}, &[u8]), Rejected> {{"]
+    lines = whole_in_rust(name, f"{export.text} Returns {text}, if no bytes are left.", returned)
+    lines += ["", f"    /// {export.text} Returns {text}, and the rest of the bytes."]
+    lines += [f"    pub fn {name}_prefix(bytes: &[u8]) -> Result<({returned}, &[u8]), Rejected> {{"]
     lines += [f"        let mut found = {filled};", f"        // SAFETY: {SAFE}"]
     lines += [f"        let outcome = unsafe {{ foreign::{export.name}(bytes.as_ptr(), bytes.len(), &mut found) }};"]
     return [*lines, "        let (_, rest) = split_as(bytes, outcome)?;", f"        Ok(({found}, rest))", "    }"]
@@ -95,7 +102,7 @@ def elements_in_rust(export: Export, name: str) -> list[str]:
 
 
 def located_in_rust(crate: str, export: Export) -> list[str]:
-    """A struct of slices, and the function that finds them."""
+    """A struct of slices, and the two functions that find them."""
     kind, name = taken_by(export), f"locate_{short(crate, export)}"
     if kind == "Span":
         return content_in_rust(export, name)
@@ -103,8 +110,10 @@ def located_in_rust(crate: str, export: Export) -> list[str]:
     lines = ["", f"    /// {it.text}", "    #[derive(Clone, Copy, PartialEq, Eq, Debug)]", f"    pub struct {kind}<'a> {{"]
     for text, field, _ in it.fields:
         lines += [f"        /// {text}", f"        pub {field_in_rust(field)}: &'a [u8],"]
-    lines += ["    }", "", f"    /// {export.message()}: returns the fields of the one that `bytes` begin with, and the rest."]
-    lines += [f"    pub fn {name}(bytes: &[u8]) -> Result<({kind}<'_>, &[u8]), Rejected> {{"]
+    lines += ["    }"]
+    lines += whole_in_rust(name, f"{export.message()}: returns its fields, if `bytes` are one, with nothing after it.", f"{kind}<'_>")
+    lines += ["", f"    /// {export.message()}: returns the fields of the one that `bytes` begin with, and the rest."]
+    lines += [f"    pub fn {name}_prefix(bytes: &[u8]) -> Result<({kind}<'_>, &[u8]), Rejected> {{"]
     lines += [f"        let mut found = foreign::{kind}::default();"]
     lines += [f"        // SAFETY: {SAFE}"]
     lines += [f"        let outcome = unsafe {{ foreign::{export.name}(bytes.as_ptr(), bytes.len(), &mut found) }};"]
@@ -167,11 +176,11 @@ def module_in_rust(crate: str) -> list[str]:
     """A static library's functions, as those of a module."""
     name, exports = crate.removesuffix("_c"), exports_of(crate)
     by_call = {call: [it for it in exports if it.call == call] for call in CALLS}
-    located, lists, encoders = by_call["_locate"], by_call["_next"], by_call["_encode"]
+    located, lists, encoders = by_call["_locate_prefix"], by_call["_next"], by_call["_encode"]
     taken = dict.fromkeys(taken_by(it) for it in located if taken_by(it) != "Span")
     if by_call["_decode_check_prefix"]:
         raise Failed(f"{crate}: an export of no kind that Rust has a function for")
-    used = ["Rejected", "split", *(["split_as"] if located else []), "whole"]
+    used = ["Rejected", *(["nothing_left"] if located else []), "split", *(["split_as"] if located else []), "whole"]
     if len(taken) < len(located) and not taken:
         used.insert(1, "Span")
     if lists:
@@ -190,8 +199,8 @@ def module_in_rust(crate: str) -> list[str]:
         body += asked_in_rust(it, f"validate_{short(crate, it)}", "Rejected", ("", ""))
     for it in located:
         body += located_in_rust(crate, it)
-    for it in by_call["_wire_format"]:
-        body += number_in_rust(it, it.name.removeprefix(f"{name}_"))
+    for it in by_call["_wire_format_prefix"]:
+        body += number_in_rust(it, it.name.removeprefix(f"{name}_").removesuffix("_prefix"))
     for it in encoders:
         body += encoder_in_rust(it, short(crate, it))
     for it in lists:
@@ -233,11 +242,11 @@ def tests_rust() -> str:
         if it.call == "_validate_prefix" and it.subject in decode:
             calls = [f"{call}, {call}_prefix" for call in (f"{module}::validate_{name}", decode[it.subject])]
             lines["message"].append(f'"{it.subject}": {BREAK.join(calls)}')
-        elif it.call == "_locate" and taken_by(it) == "Span":
-            lines["content"].append(f'"{it.name}": {module}::locate_{name}')
-        elif it.call == "_locate":
+        elif it.call == "_locate_prefix" and taken_by(it) == "Span":
+            lines["content"].append(f'"{it.name}": {module}::locate_{name}, {module}::locate_{name}_prefix')
+        elif it.call == "_locate_prefix":
             fields = " ".join(field_in_rust(field) for _, field, _ in struct_of(taken_by(it)).fields)
-            lines["located"].append(f'"{it.name}": {module}::locate_{name}{BREAK}{fields}')
+            lines["located"].append(f'"{it.name}": {module}::locate_{name}, {module}::locate_{name}_prefix{BREAK}{fields}')
         elif it.call == "_next":
             lines["list"].append(f'"{it.name}": {module}::{name}_elements')
     return wrapped([f"//! {WRITTEN}. Don't edit.", *[line for name in EACH for line in each(name, lines[name])], ""])

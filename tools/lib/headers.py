@@ -13,8 +13,8 @@ CONTRACT = """\
      even if it then rejects what it wrote; a buffer that is too small is unchanged.
    - No call keeps a pointer, leaves anything to free, or has state: calls may run in any thread.
      Only `NAME_decode_check` and `NAME_decode_check_prefix` allocate.
-   - `NAME_validate` and `NAME_decode_check` need all of the bytes. Each other call accepts bytes that
-     come after the message, and `taken` says where they begin. `tls_codec_whole` rejects them. */
+   - A call with `_prefix` in its name accepts bytes that come after the message, and `taken` says
+     where they begin. The call of the same name without `_prefix` needs all of the bytes. */
 """.split("\n")
 
 # Of an outcome.

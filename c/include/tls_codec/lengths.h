@@ -23,17 +23,53 @@ static inline tls_codec_outcome tls_codec_varint_validate(const uint8_t *bytes, 
 
 /* `opaque content<V>` (RFC 9420, section 2.1.2), and where its content is, if the bytes begin with
    one. A list `<V>` has its elements there. */
-tls_codec_outcome tls_codec_opaque_v_locate(const uint8_t *bytes, size_t length, tls_codec_span *content);
+tls_codec_outcome tls_codec_opaque_v_locate_prefix(const uint8_t *bytes, size_t length, tls_codec_span *content);
+
+/* `opaque content<V>` (RFC 9420, section 2.1.2), and where its content is, if the bytes are one,
+   with nothing after it. A list `<V>` has its elements there. */
+static inline tls_codec_outcome tls_codec_opaque_v_locate(const uint8_t *bytes, size_t length, tls_codec_span *content) {
+  tls_codec_span found;
+  tls_codec_outcome outcome = tls_codec_whole(tls_codec_opaque_v_locate_prefix(bytes, length, &found), length);
+  if (outcome.status == TLS_CODEC_ACCEPTED) *content = found;
+  return outcome;
+}
 
 /* `opaque content<0..2^8-1>` (RFC 8446, section 3.4), and where its content is, if the bytes begin
    with one. */
-tls_codec_outcome tls_codec_opaque_u8_locate(const uint8_t *bytes, size_t length, tls_codec_span *content);
+tls_codec_outcome tls_codec_opaque_u8_locate_prefix(const uint8_t *bytes, size_t length, tls_codec_span *content);
+
+/* `opaque content<0..2^8-1>` (RFC 8446, section 3.4), and where its content is, if the bytes are
+   one, with nothing after it. */
+static inline tls_codec_outcome tls_codec_opaque_u8_locate(const uint8_t *bytes, size_t length, tls_codec_span *content) {
+  tls_codec_span found;
+  tls_codec_outcome outcome = tls_codec_whole(tls_codec_opaque_u8_locate_prefix(bytes, length, &found), length);
+  if (outcome.status == TLS_CODEC_ACCEPTED) *content = found;
+  return outcome;
+}
 
 /* `opaque content<0..2^16-1>`, and where its content is, if the bytes begin with one. */
-tls_codec_outcome tls_codec_opaque_u16_locate(const uint8_t *bytes, size_t length, tls_codec_span *content);
+tls_codec_outcome tls_codec_opaque_u16_locate_prefix(const uint8_t *bytes, size_t length, tls_codec_span *content);
+
+/* `opaque content<0..2^16-1>`, and where its content is, if the bytes are one, with nothing after
+   it. */
+static inline tls_codec_outcome tls_codec_opaque_u16_locate(const uint8_t *bytes, size_t length, tls_codec_span *content) {
+  tls_codec_span found;
+  tls_codec_outcome outcome = tls_codec_whole(tls_codec_opaque_u16_locate_prefix(bytes, length, &found), length);
+  if (outcome.status == TLS_CODEC_ACCEPTED) *content = found;
+  return outcome;
+}
 
 /* `opaque content<0..2^24-1>`, and where its content is, if the bytes begin with one. */
-tls_codec_outcome tls_codec_opaque_u24_locate(const uint8_t *bytes, size_t length, tls_codec_span *content);
+tls_codec_outcome tls_codec_opaque_u24_locate_prefix(const uint8_t *bytes, size_t length, tls_codec_span *content);
+
+/* `opaque content<0..2^24-1>`, and where its content is, if the bytes are one, with nothing after
+   it. */
+static inline tls_codec_outcome tls_codec_opaque_u24_locate(const uint8_t *bytes, size_t length, tls_codec_span *content) {
+  tls_codec_span found;
+  tls_codec_outcome outcome = tls_codec_whole(tls_codec_opaque_u24_locate_prefix(bytes, length, &found), length);
+  if (outcome.status == TLS_CODEC_ACCEPTED) *content = found;
+  return outcome;
+}
 
 #ifdef __cplusplus
 }

@@ -219,7 +219,16 @@ typedef struct mls_message_fields {
 } mls_message_fields;
 
 /* `MLSMessage` (RFC 9420, section 6), and where its fields are, if the bytes begin with one. */
-tls_codec_outcome mls_message_locate(const uint8_t *bytes, size_t length, mls_message_fields *fields);
+tls_codec_outcome mls_message_locate_prefix(const uint8_t *bytes, size_t length, mls_message_fields *fields);
+
+/* `MLSMessage` (RFC 9420, section 6), and where its fields are, if the bytes are one, with nothing
+   after it. */
+static inline tls_codec_outcome mls_message_locate(const uint8_t *bytes, size_t length, mls_message_fields *fields) {
+  mls_message_fields found;
+  tls_codec_outcome outcome = tls_codec_whole(mls_message_locate_prefix(bytes, length, &found), length);
+  if (outcome.status == TLS_CODEC_ACCEPTED) *fields = found;
+  return outcome;
+}
 
 /* Where the fields of a `PublicMessage` are (RFC 9420, section 6.2). */
 typedef struct mls_public_message_fields {
@@ -233,7 +242,16 @@ typedef struct mls_public_message_fields {
 } mls_public_message_fields;
 
 /* `PublicMessage` (RFC 9420, section 6.2), and where its fields are, if the bytes begin with one. */
-tls_codec_outcome mls_public_message_locate(const uint8_t *bytes, size_t length, mls_public_message_fields *fields);
+tls_codec_outcome mls_public_message_locate_prefix(const uint8_t *bytes, size_t length, mls_public_message_fields *fields);
+
+/* `PublicMessage` (RFC 9420, section 6.2), and where its fields are, if the bytes are one, with
+   nothing after it. */
+static inline tls_codec_outcome mls_public_message_locate(const uint8_t *bytes, size_t length, mls_public_message_fields *fields) {
+  mls_public_message_fields found;
+  tls_codec_outcome outcome = tls_codec_whole(mls_public_message_locate_prefix(bytes, length, &found), length);
+  if (outcome.status == TLS_CODEC_ACCEPTED) *fields = found;
+  return outcome;
+}
 
 /* Where the fields of a `PrivateMessage` are (RFC 9420, section 6.3). A span of `opaque` has the
    bytes without their length. */
@@ -253,7 +271,16 @@ typedef struct mls_private_message_fields {
 } mls_private_message_fields;
 
 /* `PrivateMessage` (RFC 9420, section 6.3), and where its fields are, if the bytes begin with one. */
-tls_codec_outcome mls_private_message_locate(const uint8_t *bytes, size_t length, mls_private_message_fields *fields);
+tls_codec_outcome mls_private_message_locate_prefix(const uint8_t *bytes, size_t length, mls_private_message_fields *fields);
+
+/* `PrivateMessage` (RFC 9420, section 6.3), and where its fields are, if the bytes are one, with
+   nothing after it. */
+static inline tls_codec_outcome mls_private_message_locate(const uint8_t *bytes, size_t length, mls_private_message_fields *fields) {
+  mls_private_message_fields found;
+  tls_codec_outcome outcome = tls_codec_whole(mls_private_message_locate_prefix(bytes, length, &found), length);
+  if (outcome.status == TLS_CODEC_ACCEPTED) *fields = found;
+  return outcome;
+}
 
 /* Where the fields of a `FramedContent` are (RFC 9420, section 6). A span of `opaque` has the bytes
    without their length. */
@@ -275,7 +302,16 @@ typedef struct mls_framed_content_fields {
 
 /* `FramedContent` (RFC 9420, section 6), with which a `PublicMessage` begins, and where its fields
    are, if the bytes begin with one. */
-tls_codec_outcome mls_framed_content_locate(const uint8_t *bytes, size_t length, mls_framed_content_fields *fields);
+tls_codec_outcome mls_framed_content_locate_prefix(const uint8_t *bytes, size_t length, mls_framed_content_fields *fields);
+
+/* `FramedContent` (RFC 9420, section 6), with which a `PublicMessage` begins, and where its fields
+   are, if the bytes are one, with nothing after it. */
+static inline tls_codec_outcome mls_framed_content_locate(const uint8_t *bytes, size_t length, mls_framed_content_fields *fields) {
+  mls_framed_content_fields found;
+  tls_codec_outcome outcome = tls_codec_whole(mls_framed_content_locate_prefix(bytes, length, &found), length);
+  if (outcome.status == TLS_CODEC_ACCEPTED) *fields = found;
+  return outcome;
+}
 
 /* Where the fields of a `SenderData` are (RFC 9420, section 6.3.2). */
 typedef struct mls_sender_data_fields {
@@ -288,7 +324,16 @@ typedef struct mls_sender_data_fields {
 } mls_sender_data_fields;
 
 /* `SenderData` (RFC 9420, section 6.3.2), and where its fields are, if the bytes begin with one. */
-tls_codec_outcome mls_sender_data_locate(const uint8_t *bytes, size_t length, mls_sender_data_fields *fields);
+tls_codec_outcome mls_sender_data_locate_prefix(const uint8_t *bytes, size_t length, mls_sender_data_fields *fields);
+
+/* `SenderData` (RFC 9420, section 6.3.2), and where its fields are, if the bytes are one, with
+   nothing after it. */
+static inline tls_codec_outcome mls_sender_data_locate(const uint8_t *bytes, size_t length, mls_sender_data_fields *fields) {
+  mls_sender_data_fields found;
+  tls_codec_outcome outcome = tls_codec_whole(mls_sender_data_locate_prefix(bytes, length, &found), length);
+  if (outcome.status == TLS_CODEC_ACCEPTED) *fields = found;
+  return outcome;
+}
 
 /* Where the fields of a `KeyPackage` are (RFC 9420, section 10). A span of `opaque` has the bytes
    without their length. */
@@ -308,7 +353,16 @@ typedef struct mls_key_package_fields {
 } mls_key_package_fields;
 
 /* `KeyPackage` (RFC 9420, section 10), and where its fields are, if the bytes begin with one. */
-tls_codec_outcome mls_key_package_locate(const uint8_t *bytes, size_t length, mls_key_package_fields *fields);
+tls_codec_outcome mls_key_package_locate_prefix(const uint8_t *bytes, size_t length, mls_key_package_fields *fields);
+
+/* `KeyPackage` (RFC 9420, section 10), and where its fields are, if the bytes are one, with nothing
+   after it. */
+static inline tls_codec_outcome mls_key_package_locate(const uint8_t *bytes, size_t length, mls_key_package_fields *fields) {
+  mls_key_package_fields found;
+  tls_codec_outcome outcome = tls_codec_whole(mls_key_package_locate_prefix(bytes, length, &found), length);
+  if (outcome.status == TLS_CODEC_ACCEPTED) *fields = found;
+  return outcome;
+}
 
 /* Where the fields of a `LeafNode` are (RFC 9420, section 7.2). A span of `opaque` has the bytes
    without their length. */
@@ -332,7 +386,16 @@ typedef struct mls_leaf_node_fields {
 } mls_leaf_node_fields;
 
 /* `LeafNode` (RFC 9420, section 7.2), and where its fields are, if the bytes begin with one. */
-tls_codec_outcome mls_leaf_node_locate(const uint8_t *bytes, size_t length, mls_leaf_node_fields *fields);
+tls_codec_outcome mls_leaf_node_locate_prefix(const uint8_t *bytes, size_t length, mls_leaf_node_fields *fields);
+
+/* `LeafNode` (RFC 9420, section 7.2), and where its fields are, if the bytes are one, with nothing
+   after it. */
+static inline tls_codec_outcome mls_leaf_node_locate(const uint8_t *bytes, size_t length, mls_leaf_node_fields *fields) {
+  mls_leaf_node_fields found;
+  tls_codec_outcome outcome = tls_codec_whole(mls_leaf_node_locate_prefix(bytes, length, &found), length);
+  if (outcome.status == TLS_CODEC_ACCEPTED) *fields = found;
+  return outcome;
+}
 
 /* Where the fields of a `Welcome` are (RFC 9420, section 12.4.3.1). A span of `opaque` has the
    bytes without their length. */
@@ -346,7 +409,16 @@ typedef struct mls_welcome_fields {
 } mls_welcome_fields;
 
 /* `Welcome` (RFC 9420, section 12.4.3.1), and where its fields are, if the bytes begin with one. */
-tls_codec_outcome mls_welcome_locate(const uint8_t *bytes, size_t length, mls_welcome_fields *fields);
+tls_codec_outcome mls_welcome_locate_prefix(const uint8_t *bytes, size_t length, mls_welcome_fields *fields);
+
+/* `Welcome` (RFC 9420, section 12.4.3.1), and where its fields are, if the bytes are one, with
+   nothing after it. */
+static inline tls_codec_outcome mls_welcome_locate(const uint8_t *bytes, size_t length, mls_welcome_fields *fields) {
+  mls_welcome_fields found;
+  tls_codec_outcome outcome = tls_codec_whole(mls_welcome_locate_prefix(bytes, length, &found), length);
+  if (outcome.status == TLS_CODEC_ACCEPTED) *fields = found;
+  return outcome;
+}
 
 /* Where the fields of a `GroupSecrets` are (RFC 9420, section 12.4.3.1). A span of `opaque` has the
    bytes without their length. */
@@ -361,7 +433,16 @@ typedef struct mls_group_secrets_fields {
 
 /* `GroupSecrets` (RFC 9420, section 12.4.3.1), and where its fields are, if the bytes begin with
    one. */
-tls_codec_outcome mls_group_secrets_locate(const uint8_t *bytes, size_t length, mls_group_secrets_fields *fields);
+tls_codec_outcome mls_group_secrets_locate_prefix(const uint8_t *bytes, size_t length, mls_group_secrets_fields *fields);
+
+/* `GroupSecrets` (RFC 9420, section 12.4.3.1), and where its fields are, if the bytes are one, with
+   nothing after it. */
+static inline tls_codec_outcome mls_group_secrets_locate(const uint8_t *bytes, size_t length, mls_group_secrets_fields *fields) {
+  mls_group_secrets_fields found;
+  tls_codec_outcome outcome = tls_codec_whole(mls_group_secrets_locate_prefix(bytes, length, &found), length);
+  if (outcome.status == TLS_CODEC_ACCEPTED) *fields = found;
+  return outcome;
+}
 
 /* Where the fields of a `GroupInfo` are (RFC 9420, section 12.4.3). A span of `opaque` has the
    bytes without their length. */
@@ -379,7 +460,16 @@ typedef struct mls_group_info_fields {
 } mls_group_info_fields;
 
 /* `GroupInfo` (RFC 9420, section 12.4.3), and where its fields are, if the bytes begin with one. */
-tls_codec_outcome mls_group_info_locate(const uint8_t *bytes, size_t length, mls_group_info_fields *fields);
+tls_codec_outcome mls_group_info_locate_prefix(const uint8_t *bytes, size_t length, mls_group_info_fields *fields);
+
+/* `GroupInfo` (RFC 9420, section 12.4.3), and where its fields are, if the bytes are one, with
+   nothing after it. */
+static inline tls_codec_outcome mls_group_info_locate(const uint8_t *bytes, size_t length, mls_group_info_fields *fields) {
+  mls_group_info_fields found;
+  tls_codec_outcome outcome = tls_codec_whole(mls_group_info_locate_prefix(bytes, length, &found), length);
+  if (outcome.status == TLS_CODEC_ACCEPTED) *fields = found;
+  return outcome;
+}
 
 /* Where the fields of a `GroupContext` are (RFC 9420, section 8.1). A span of `opaque` has the
    bytes without their length. */
@@ -401,7 +491,16 @@ typedef struct mls_group_context_fields {
 } mls_group_context_fields;
 
 /* `GroupContext` (RFC 9420, section 8.1), and where its fields are, if the bytes begin with one. */
-tls_codec_outcome mls_group_context_locate(const uint8_t *bytes, size_t length, mls_group_context_fields *fields);
+tls_codec_outcome mls_group_context_locate_prefix(const uint8_t *bytes, size_t length, mls_group_context_fields *fields);
+
+/* `GroupContext` (RFC 9420, section 8.1), and where its fields are, if the bytes are one, with
+   nothing after it. */
+static inline tls_codec_outcome mls_group_context_locate(const uint8_t *bytes, size_t length, mls_group_context_fields *fields) {
+  mls_group_context_fields found;
+  tls_codec_outcome outcome = tls_codec_whole(mls_group_context_locate_prefix(bytes, length, &found), length);
+  if (outcome.status == TLS_CODEC_ACCEPTED) *fields = found;
+  return outcome;
+}
 
 /* Where the fields of a `Commit` are (RFC 9420, section 12.4). */
 typedef struct mls_commit_fields {
@@ -412,7 +511,16 @@ typedef struct mls_commit_fields {
 } mls_commit_fields;
 
 /* `Commit` (RFC 9420, section 12.4), and where its fields are, if the bytes begin with one. */
-tls_codec_outcome mls_commit_locate(const uint8_t *bytes, size_t length, mls_commit_fields *fields);
+tls_codec_outcome mls_commit_locate_prefix(const uint8_t *bytes, size_t length, mls_commit_fields *fields);
+
+/* `Commit` (RFC 9420, section 12.4), and where its fields are, if the bytes are one, with nothing
+   after it. */
+static inline tls_codec_outcome mls_commit_locate(const uint8_t *bytes, size_t length, mls_commit_fields *fields) {
+  mls_commit_fields found;
+  tls_codec_outcome outcome = tls_codec_whole(mls_commit_locate_prefix(bytes, length, &found), length);
+  if (outcome.status == TLS_CODEC_ACCEPTED) *fields = found;
+  return outcome;
+}
 
 /* Where the fields of a `Proposal` are (RFC 9420, section 12.1). */
 typedef struct mls_proposal_fields {
@@ -423,7 +531,16 @@ typedef struct mls_proposal_fields {
 } mls_proposal_fields;
 
 /* `Proposal` (RFC 9420, section 12.1), and where its fields are, if the bytes begin with one. */
-tls_codec_outcome mls_proposal_locate(const uint8_t *bytes, size_t length, mls_proposal_fields *fields);
+tls_codec_outcome mls_proposal_locate_prefix(const uint8_t *bytes, size_t length, mls_proposal_fields *fields);
+
+/* `Proposal` (RFC 9420, section 12.1), and where its fields are, if the bytes are one, with nothing
+   after it. */
+static inline tls_codec_outcome mls_proposal_locate(const uint8_t *bytes, size_t length, mls_proposal_fields *fields) {
+  mls_proposal_fields found;
+  tls_codec_outcome outcome = tls_codec_whole(mls_proposal_locate_prefix(bytes, length, &found), length);
+  if (outcome.status == TLS_CODEC_ACCEPTED) *fields = found;
+  return outcome;
+}
 
 /* The elements of a list. `*left` is the place in `bytes` of the elements that are left: at first
    offset 0 and size `length`, if `bytes` are the list without its length. If the first of them is
@@ -444,9 +561,19 @@ tls_codec_outcome mls_proposal_or_ref_next(const uint8_t *bytes, size_t length, 
 /* `EncryptedGroupSecrets` of a `Welcome` (RFC 9420, section 12.4.3.1): the next one of a list. */
 tls_codec_outcome mls_encrypted_group_secrets_next(const uint8_t *bytes, size_t length, tls_codec_span *left, tls_codec_span *element);
 
-/* `MLSMessage` (RFC 9420, section 6), and its `WireFormat`: 1 is a public message, 2 a private
-   message, 3 a welcome, 4 a group info, 5 a key package. */
-tls_codec_outcome mls_message_wire_format(const uint8_t *bytes, size_t length, uint16_t *wire_format);
+/* `MLSMessage` (RFC 9420, section 6), and its `WireFormat`, if the bytes begin with one: 1 is a
+   public message, 2 a private message, 3 a welcome, 4 a group info, 5 a key package. */
+tls_codec_outcome mls_message_wire_format_prefix(const uint8_t *bytes, size_t length, uint16_t *wire_format);
+
+/* `MLSMessage` (RFC 9420, section 6), and its `WireFormat`, if the bytes are one, with nothing
+   after it: 1 is a public message, 2 a private message, 3 a welcome, 4 a group info, 5 a key
+   package. */
+static inline tls_codec_outcome mls_message_wire_format(const uint8_t *bytes, size_t length, uint16_t *wire_format) {
+  uint16_t found;
+  tls_codec_outcome outcome = tls_codec_whole(mls_message_wire_format_prefix(bytes, length, &found), length);
+  if (outcome.status == TLS_CODEC_ACCEPTED) *wire_format = found;
+  return outcome;
+}
 
 /* `FramedContentTBS` (RFC 9420, section 6.1): writes into `out` what `SignWithLabel` (section
    5.1.2) signs of a message, under the label `FramedContentTBS`: the version, the wire format, the

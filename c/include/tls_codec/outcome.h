@@ -12,8 +12,8 @@
      even if it then rejects what it wrote; a buffer that is too small is unchanged.
    - No call keeps a pointer, leaves anything to free, or has state: calls may run in any thread.
      Only `NAME_decode_check` and `NAME_decode_check_prefix` allocate.
-   - `NAME_validate` and `NAME_decode_check` need all of the bytes. Each other call accepts bytes that
-     come after the message, and `taken` says where they begin. `tls_codec_whole` rejects them. */
+   - A call with `_prefix` in its name accepts bytes that come after the message, and `taken` says
+     where they begin. The call of the same name without `_prefix` needs all of the bytes. */
 
 #include <stddef.h>
 #include <stdint.h>
@@ -25,7 +25,7 @@
 #define TLS_CODEC_VERSION_NUMBER 300
 
 /* The line that `tls_codec.version` beside archives of just these headers has. */
-#define TLS_CODEC_HEADERS "0.3.0 4cc19b16228c3d92"
+#define TLS_CODEC_HEADERS "0.3.0 555cb9c846690695"
 
 /* A call's status. The numbers don't change. */
 enum tls_codec_status {

@@ -254,7 +254,16 @@ typedef struct tls13_handshake_fields {
 } tls13_handshake_fields;
 
 /* `Handshake` (RFC 8446, section 4), and where its fields are, if the bytes begin with one. */
-tls_codec_outcome tls13_handshake_locate(const uint8_t *bytes, size_t length, tls13_handshake_fields *fields);
+tls_codec_outcome tls13_handshake_locate_prefix(const uint8_t *bytes, size_t length, tls13_handshake_fields *fields);
+
+/* `Handshake` (RFC 8446, section 4), and where its fields are, if the bytes are one, with nothing
+   after it. */
+static inline tls_codec_outcome tls13_handshake_locate(const uint8_t *bytes, size_t length, tls13_handshake_fields *fields) {
+  tls13_handshake_fields found;
+  tls_codec_outcome outcome = tls_codec_whole(tls13_handshake_locate_prefix(bytes, length, &found), length);
+  if (outcome.status == TLS_CODEC_ACCEPTED) *fields = found;
+  return outcome;
+}
 
 /* Where the fields of a `ClientHello` are (RFC 8446, section 4.1.2). A span of `opaque` has the
    bytes without their length. */
@@ -274,7 +283,16 @@ typedef struct tls13_client_hello_fields {
 } tls13_client_hello_fields;
 
 /* `ClientHello` (RFC 8446, section 4.1.2), and where its fields are, if the bytes begin with one. */
-tls_codec_outcome tls13_client_hello_locate(const uint8_t *bytes, size_t length, tls13_client_hello_fields *fields);
+tls_codec_outcome tls13_client_hello_locate_prefix(const uint8_t *bytes, size_t length, tls13_client_hello_fields *fields);
+
+/* `ClientHello` (RFC 8446, section 4.1.2), and where its fields are, if the bytes are one, with
+   nothing after it. */
+static inline tls_codec_outcome tls13_client_hello_locate(const uint8_t *bytes, size_t length, tls13_client_hello_fields *fields) {
+  tls13_client_hello_fields found;
+  tls_codec_outcome outcome = tls_codec_whole(tls13_client_hello_locate_prefix(bytes, length, &found), length);
+  if (outcome.status == TLS_CODEC_ACCEPTED) *fields = found;
+  return outcome;
+}
 
 /* Where the fields of a `ServerHello` are (RFC 8446, section 4.1.3). A span of `opaque` has the
    bytes without their length. */
@@ -294,7 +312,16 @@ typedef struct tls13_server_hello_fields {
 } tls13_server_hello_fields;
 
 /* `ServerHello` (RFC 8446, section 4.1.3), and where its fields are, if the bytes begin with one. */
-tls_codec_outcome tls13_server_hello_locate(const uint8_t *bytes, size_t length, tls13_server_hello_fields *fields);
+tls_codec_outcome tls13_server_hello_locate_prefix(const uint8_t *bytes, size_t length, tls13_server_hello_fields *fields);
+
+/* `ServerHello` (RFC 8446, section 4.1.3), and where its fields are, if the bytes are one, with
+   nothing after it. */
+static inline tls_codec_outcome tls13_server_hello_locate(const uint8_t *bytes, size_t length, tls13_server_hello_fields *fields) {
+  tls13_server_hello_fields found;
+  tls_codec_outcome outcome = tls_codec_whole(tls13_server_hello_locate_prefix(bytes, length, &found), length);
+  if (outcome.status == TLS_CODEC_ACCEPTED) *fields = found;
+  return outcome;
+}
 
 /* Where the fields of an `EncryptedExtensions` are (RFC 8446, section 4.3.1). */
 typedef struct tls13_encrypted_extensions_fields {
@@ -304,7 +331,16 @@ typedef struct tls13_encrypted_extensions_fields {
 
 /* `EncryptedExtensions` (RFC 8446, section 4.3.1), and where its fields are, if the bytes begin
    with one. */
-tls_codec_outcome tls13_encrypted_extensions_locate(const uint8_t *bytes, size_t length, tls13_encrypted_extensions_fields *fields);
+tls_codec_outcome tls13_encrypted_extensions_locate_prefix(const uint8_t *bytes, size_t length, tls13_encrypted_extensions_fields *fields);
+
+/* `EncryptedExtensions` (RFC 8446, section 4.3.1), and where its fields are, if the bytes are one,
+   with nothing after it. */
+static inline tls_codec_outcome tls13_encrypted_extensions_locate(const uint8_t *bytes, size_t length, tls13_encrypted_extensions_fields *fields) {
+  tls13_encrypted_extensions_fields found;
+  tls_codec_outcome outcome = tls_codec_whole(tls13_encrypted_extensions_locate_prefix(bytes, length, &found), length);
+  if (outcome.status == TLS_CODEC_ACCEPTED) *fields = found;
+  return outcome;
+}
 
 /* Where the fields of a `CertificateRequest` are (RFC 8446, section 4.3.2). A span of `opaque` has
    the bytes without their length. */
@@ -317,7 +353,16 @@ typedef struct tls13_certificate_request_fields {
 
 /* `CertificateRequest` (RFC 8446, section 4.3.2), and where its fields are, if the bytes begin with
    one. */
-tls_codec_outcome tls13_certificate_request_locate(const uint8_t *bytes, size_t length, tls13_certificate_request_fields *fields);
+tls_codec_outcome tls13_certificate_request_locate_prefix(const uint8_t *bytes, size_t length, tls13_certificate_request_fields *fields);
+
+/* `CertificateRequest` (RFC 8446, section 4.3.2), and where its fields are, if the bytes are one,
+   with nothing after it. */
+static inline tls_codec_outcome tls13_certificate_request_locate(const uint8_t *bytes, size_t length, tls13_certificate_request_fields *fields) {
+  tls13_certificate_request_fields found;
+  tls_codec_outcome outcome = tls_codec_whole(tls13_certificate_request_locate_prefix(bytes, length, &found), length);
+  if (outcome.status == TLS_CODEC_ACCEPTED) *fields = found;
+  return outcome;
+}
 
 /* Where the fields of a `Certificate` are (RFC 8446, section 4.4.2). A span of `opaque` has the
    bytes without their length. */
@@ -329,7 +374,16 @@ typedef struct tls13_certificate_fields {
 } tls13_certificate_fields;
 
 /* `Certificate` (RFC 8446, section 4.4.2), and where its fields are, if the bytes begin with one. */
-tls_codec_outcome tls13_certificate_locate(const uint8_t *bytes, size_t length, tls13_certificate_fields *fields);
+tls_codec_outcome tls13_certificate_locate_prefix(const uint8_t *bytes, size_t length, tls13_certificate_fields *fields);
+
+/* `Certificate` (RFC 8446, section 4.4.2), and where its fields are, if the bytes are one, with
+   nothing after it. */
+static inline tls_codec_outcome tls13_certificate_locate(const uint8_t *bytes, size_t length, tls13_certificate_fields *fields) {
+  tls13_certificate_fields found;
+  tls_codec_outcome outcome = tls_codec_whole(tls13_certificate_locate_prefix(bytes, length, &found), length);
+  if (outcome.status == TLS_CODEC_ACCEPTED) *fields = found;
+  return outcome;
+}
 
 /* Where the fields of a `CertificateVerify` are (RFC 8446, section 4.4.3). A span of `opaque` has
    the bytes without their length. */
@@ -342,7 +396,16 @@ typedef struct tls13_certificate_verify_fields {
 
 /* `CertificateVerify` (RFC 8446, section 4.4.3), and where its fields are, if the bytes begin with
    one. */
-tls_codec_outcome tls13_certificate_verify_locate(const uint8_t *bytes, size_t length, tls13_certificate_verify_fields *fields);
+tls_codec_outcome tls13_certificate_verify_locate_prefix(const uint8_t *bytes, size_t length, tls13_certificate_verify_fields *fields);
+
+/* `CertificateVerify` (RFC 8446, section 4.4.3), and where its fields are, if the bytes are one,
+   with nothing after it. */
+static inline tls_codec_outcome tls13_certificate_verify_locate(const uint8_t *bytes, size_t length, tls13_certificate_verify_fields *fields) {
+  tls13_certificate_verify_fields found;
+  tls_codec_outcome outcome = tls_codec_whole(tls13_certificate_verify_locate_prefix(bytes, length, &found), length);
+  if (outcome.status == TLS_CODEC_ACCEPTED) *fields = found;
+  return outcome;
+}
 
 /* Where the fields of a `NewSessionTicket` are (RFC 8446, section 4.6.1). A span of `opaque` has
    the bytes without their length. */
@@ -361,7 +424,16 @@ typedef struct tls13_new_session_ticket_fields {
 
 /* `NewSessionTicket` (RFC 8446, section 4.6.1), and where its fields are, if the bytes begin with
    one. */
-tls_codec_outcome tls13_new_session_ticket_locate(const uint8_t *bytes, size_t length, tls13_new_session_ticket_fields *fields);
+tls_codec_outcome tls13_new_session_ticket_locate_prefix(const uint8_t *bytes, size_t length, tls13_new_session_ticket_fields *fields);
+
+/* `NewSessionTicket` (RFC 8446, section 4.6.1), and where its fields are, if the bytes are one,
+   with nothing after it. */
+static inline tls_codec_outcome tls13_new_session_ticket_locate(const uint8_t *bytes, size_t length, tls13_new_session_ticket_fields *fields) {
+  tls13_new_session_ticket_fields found;
+  tls_codec_outcome outcome = tls_codec_whole(tls13_new_session_ticket_locate_prefix(bytes, length, &found), length);
+  if (outcome.status == TLS_CODEC_ACCEPTED) *fields = found;
+  return outcome;
+}
 
 /* Where the fields of a `KeyUpdate` are (RFC 8446, section 4.6.3). */
 typedef struct tls13_key_update_fields {
@@ -370,7 +442,16 @@ typedef struct tls13_key_update_fields {
 } tls13_key_update_fields;
 
 /* `KeyUpdate` (RFC 8446, section 4.6.3), and where its fields are, if the bytes begin with one. */
-tls_codec_outcome tls13_key_update_locate(const uint8_t *bytes, size_t length, tls13_key_update_fields *fields);
+tls_codec_outcome tls13_key_update_locate_prefix(const uint8_t *bytes, size_t length, tls13_key_update_fields *fields);
+
+/* `KeyUpdate` (RFC 8446, section 4.6.3), and where its fields are, if the bytes are one, with
+   nothing after it. */
+static inline tls_codec_outcome tls13_key_update_locate(const uint8_t *bytes, size_t length, tls13_key_update_fields *fields) {
+  tls13_key_update_fields found;
+  tls_codec_outcome outcome = tls_codec_whole(tls13_key_update_locate_prefix(bytes, length, &found), length);
+  if (outcome.status == TLS_CODEC_ACCEPTED) *fields = found;
+  return outcome;
+}
 
 /* Where the fields of a `TLSPlaintext` are (RFC 8446, section 5.1). A span of `opaque` has the
    bytes without their length. */
@@ -384,7 +465,16 @@ typedef struct tls13_tls_plaintext_fields {
 } tls13_tls_plaintext_fields;
 
 /* `TLSPlaintext` (RFC 8446, section 5.1), and where its fields are, if the bytes begin with one. */
-tls_codec_outcome tls13_tls_plaintext_locate(const uint8_t *bytes, size_t length, tls13_tls_plaintext_fields *fields);
+tls_codec_outcome tls13_tls_plaintext_locate_prefix(const uint8_t *bytes, size_t length, tls13_tls_plaintext_fields *fields);
+
+/* `TLSPlaintext` (RFC 8446, section 5.1), and where its fields are, if the bytes are one, with
+   nothing after it. */
+static inline tls_codec_outcome tls13_tls_plaintext_locate(const uint8_t *bytes, size_t length, tls13_tls_plaintext_fields *fields) {
+  tls13_tls_plaintext_fields found;
+  tls_codec_outcome outcome = tls_codec_whole(tls13_tls_plaintext_locate_prefix(bytes, length, &found), length);
+  if (outcome.status == TLS_CODEC_ACCEPTED) *fields = found;
+  return outcome;
+}
 
 /* Where the fields of a `TLSCiphertext` are (RFC 8446, section 5.2). A span of `opaque` has the
    bytes without their length. */
@@ -398,7 +488,16 @@ typedef struct tls13_tls_ciphertext_fields {
 } tls13_tls_ciphertext_fields;
 
 /* `TLSCiphertext` (RFC 8446, section 5.2), and where its fields are, if the bytes begin with one. */
-tls_codec_outcome tls13_tls_ciphertext_locate(const uint8_t *bytes, size_t length, tls13_tls_ciphertext_fields *fields);
+tls_codec_outcome tls13_tls_ciphertext_locate_prefix(const uint8_t *bytes, size_t length, tls13_tls_ciphertext_fields *fields);
+
+/* `TLSCiphertext` (RFC 8446, section 5.2), and where its fields are, if the bytes are one, with
+   nothing after it. */
+static inline tls_codec_outcome tls13_tls_ciphertext_locate(const uint8_t *bytes, size_t length, tls13_tls_ciphertext_fields *fields) {
+  tls13_tls_ciphertext_fields found;
+  tls_codec_outcome outcome = tls_codec_whole(tls13_tls_ciphertext_locate_prefix(bytes, length, &found), length);
+  if (outcome.status == TLS_CODEC_ACCEPTED) *fields = found;
+  return outcome;
+}
 
 /* Where the fields of an `Alert` are (RFC 8446, section 6). */
 typedef struct tls13_alert_fields {
@@ -409,7 +508,16 @@ typedef struct tls13_alert_fields {
 } tls13_alert_fields;
 
 /* `Alert` (RFC 8446, section 6), and where its fields are, if the bytes begin with one. */
-tls_codec_outcome tls13_alert_locate(const uint8_t *bytes, size_t length, tls13_alert_fields *fields);
+tls_codec_outcome tls13_alert_locate_prefix(const uint8_t *bytes, size_t length, tls13_alert_fields *fields);
+
+/* `Alert` (RFC 8446, section 6), and where its fields are, if the bytes are one, with nothing after
+   it. */
+static inline tls_codec_outcome tls13_alert_locate(const uint8_t *bytes, size_t length, tls13_alert_fields *fields) {
+  tls13_alert_fields found;
+  tls_codec_outcome outcome = tls_codec_whole(tls13_alert_locate_prefix(bytes, length, &found), length);
+  if (outcome.status == TLS_CODEC_ACCEPTED) *fields = found;
+  return outcome;
+}
 
 /* The elements of a list. `*left` is the place in `bytes` of the elements that are left: at first
    offset 0 and size `length`, if `bytes` are the list without its length. If the first of them is

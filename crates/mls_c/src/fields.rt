@@ -42,7 +42,7 @@ use tls_codec_validate::Validate;
 
 /// `MLSMessage` (RFC 9420, section 6), and where its fields are.
 #[unsafe(no_mangle)]
-pub extern "C" fn mls_message_locate(bytes: &[u8], fields: &mut MLSMessageFields) -> Outcome
+pub extern "C" fn mls_message_locate_prefix(bytes: &[u8], fields: &mut MLSMessageFields) -> Outcome
     ensures status { Decides mls_message_format bytes.now result.status }
     ensures taken { IsTaken mls_message_format bytes.now result.status result.taken }
     ensures rejected { IsRejection ⟦<MLSMessage as DeserializeBytes>⟧.names
@@ -59,7 +59,7 @@ pub extern "C" fn mls_message_locate(bytes: &[u8], fields: &mut MLSMessageFields
 
 /// `PublicMessage` (RFC 9420, section 6.2), and where its fields are.
 #[unsafe(no_mangle)]
-pub extern "C" fn mls_public_message_locate(
+pub extern "C" fn mls_public_message_locate_prefix(
     bytes: &[u8],
     fields: &mut PublicMessageFields,
 ) -> Outcome
@@ -79,7 +79,7 @@ pub extern "C" fn mls_public_message_locate(
 
 /// `PrivateMessage` (RFC 9420, section 6.3), and where its fields are.
 #[unsafe(no_mangle)]
-pub extern "C" fn mls_private_message_locate(
+pub extern "C" fn mls_private_message_locate_prefix(
     bytes: &[u8],
     fields: &mut PrivateMessageFields,
 ) -> Outcome
@@ -99,7 +99,7 @@ pub extern "C" fn mls_private_message_locate(
 
 /// `FramedContent` (RFC 9420, section 6), with which a `PublicMessage` begins, and where its fields are.
 #[unsafe(no_mangle)]
-pub extern "C" fn mls_framed_content_locate(
+pub extern "C" fn mls_framed_content_locate_prefix(
     bytes: &[u8],
     fields: &mut FramedContentFields,
 ) -> Outcome
@@ -119,7 +119,10 @@ pub extern "C" fn mls_framed_content_locate(
 
 /// `SenderData` (RFC 9420, section 6.3.2), and where its fields are.
 #[unsafe(no_mangle)]
-pub extern "C" fn mls_sender_data_locate(bytes: &[u8], fields: &mut SenderDataFields) -> Outcome
+pub extern "C" fn mls_sender_data_locate_prefix(
+    bytes: &[u8],
+    fields: &mut SenderDataFields,
+) -> Outcome
     ensures status { Decides sender_data_format bytes.now result.status }
     ensures taken { IsTaken sender_data_format bytes.now result.status result.taken }
     ensures rejected { IsRejection ⟦<SenderData as DeserializeBytes>⟧.names
@@ -136,7 +139,10 @@ pub extern "C" fn mls_sender_data_locate(bytes: &[u8], fields: &mut SenderDataFi
 
 /// `KeyPackage` (RFC 9420, section 10), and where its fields are.
 #[unsafe(no_mangle)]
-pub extern "C" fn mls_key_package_locate(bytes: &[u8], fields: &mut KeyPackageFields) -> Outcome
+pub extern "C" fn mls_key_package_locate_prefix(
+    bytes: &[u8],
+    fields: &mut KeyPackageFields,
+) -> Outcome
     ensures status { Decides key_package_format bytes.now result.status }
     ensures taken { IsTaken key_package_format bytes.now result.status result.taken }
     ensures rejected { IsRejection ⟦<KeyPackage as DeserializeBytes>⟧.names
@@ -153,7 +159,7 @@ pub extern "C" fn mls_key_package_locate(bytes: &[u8], fields: &mut KeyPackageFi
 
 /// `LeafNode` (RFC 9420, section 7.2), and where its fields are.
 #[unsafe(no_mangle)]
-pub extern "C" fn mls_leaf_node_locate(bytes: &[u8], fields: &mut LeafNodeFields) -> Outcome
+pub extern "C" fn mls_leaf_node_locate_prefix(bytes: &[u8], fields: &mut LeafNodeFields) -> Outcome
     ensures status { Decides leaf_node_format bytes.now result.status }
     ensures taken { IsTaken leaf_node_format bytes.now result.status result.taken }
     ensures rejected { IsRejection ⟦<LeafNode as DeserializeBytes>⟧.names
@@ -170,7 +176,7 @@ pub extern "C" fn mls_leaf_node_locate(bytes: &[u8], fields: &mut LeafNodeFields
 
 /// `Welcome` (RFC 9420, section 12.4.3.1), and where its fields are.
 #[unsafe(no_mangle)]
-pub extern "C" fn mls_welcome_locate(bytes: &[u8], fields: &mut WelcomeFields) -> Outcome
+pub extern "C" fn mls_welcome_locate_prefix(bytes: &[u8], fields: &mut WelcomeFields) -> Outcome
     ensures status { Decides welcome_format bytes.now result.status }
     ensures taken { IsTaken welcome_format bytes.now result.status result.taken }
     ensures rejected { IsRejection ⟦<Welcome as DeserializeBytes>⟧.names
@@ -187,7 +193,10 @@ pub extern "C" fn mls_welcome_locate(bytes: &[u8], fields: &mut WelcomeFields) -
 
 /// `GroupSecrets` (RFC 9420, section 12.4.3.1), and where its fields are.
 #[unsafe(no_mangle)]
-pub extern "C" fn mls_group_secrets_locate(bytes: &[u8], fields: &mut GroupSecretsFields) -> Outcome
+pub extern "C" fn mls_group_secrets_locate_prefix(
+    bytes: &[u8],
+    fields: &mut GroupSecretsFields,
+) -> Outcome
     ensures status { Decides group_secrets_format bytes.now result.status }
     ensures taken { IsTaken group_secrets_format bytes.now result.status result.taken }
     ensures rejected { IsRejection ⟦<GroupSecrets as DeserializeBytes>⟧.names
@@ -204,7 +213,10 @@ pub extern "C" fn mls_group_secrets_locate(bytes: &[u8], fields: &mut GroupSecre
 
 /// `GroupInfo` (RFC 9420, section 12.4.3), and where its fields are.
 #[unsafe(no_mangle)]
-pub extern "C" fn mls_group_info_locate(bytes: &[u8], fields: &mut GroupInfoFields) -> Outcome
+pub extern "C" fn mls_group_info_locate_prefix(
+    bytes: &[u8],
+    fields: &mut GroupInfoFields,
+) -> Outcome
     ensures status { Decides group_info_format bytes.now result.status }
     ensures taken { IsTaken group_info_format bytes.now result.status result.taken }
     ensures rejected { IsRejection ⟦<GroupInfo as DeserializeBytes>⟧.names
@@ -221,7 +233,10 @@ pub extern "C" fn mls_group_info_locate(bytes: &[u8], fields: &mut GroupInfoFiel
 
 /// `GroupContext` (RFC 9420, section 8.1), and where its fields are.
 #[unsafe(no_mangle)]
-pub extern "C" fn mls_group_context_locate(bytes: &[u8], fields: &mut GroupContextFields) -> Outcome
+pub extern "C" fn mls_group_context_locate_prefix(
+    bytes: &[u8],
+    fields: &mut GroupContextFields,
+) -> Outcome
     ensures status { Decides group_context_format bytes.now result.status }
     ensures taken { IsTaken group_context_format bytes.now result.status result.taken }
     ensures rejected { IsRejection ⟦<GroupContext as DeserializeBytes>⟧.names
@@ -238,7 +253,7 @@ pub extern "C" fn mls_group_context_locate(bytes: &[u8], fields: &mut GroupConte
 
 /// `Commit` (RFC 9420, section 12.4), and where its fields are.
 #[unsafe(no_mangle)]
-pub extern "C" fn mls_commit_locate(bytes: &[u8], fields: &mut CommitFields) -> Outcome
+pub extern "C" fn mls_commit_locate_prefix(bytes: &[u8], fields: &mut CommitFields) -> Outcome
     ensures status { Decides commit_format bytes.now result.status }
     ensures taken { IsTaken commit_format bytes.now result.status result.taken }
     ensures rejected { IsRejection ⟦<Commit as DeserializeBytes>⟧.names
@@ -255,7 +270,7 @@ pub extern "C" fn mls_commit_locate(bytes: &[u8], fields: &mut CommitFields) -> 
 
 /// `Proposal` (RFC 9420, section 12.1), and where its fields are.
 #[unsafe(no_mangle)]
-pub extern "C" fn mls_proposal_locate(bytes: &[u8], fields: &mut ProposalFields) -> Outcome
+pub extern "C" fn mls_proposal_locate_prefix(bytes: &[u8], fields: &mut ProposalFields) -> Outcome
     ensures status { Decides proposal_format bytes.now result.status }
     ensures taken { IsTaken proposal_format bytes.now result.status result.taken }
     ensures rejected { IsRejection ⟦<Proposal as DeserializeBytes>⟧.names

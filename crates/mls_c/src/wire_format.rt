@@ -13,7 +13,7 @@ use tls_codec_validate::Validate;
 /// `MLSMessage` (RFC 9420, section 6), and its `WireFormat`: 1 is a public message, 2 a private message, 3 a welcome, 4 a
 /// group info, 5 a key package.
 #[unsafe(no_mangle)]
-pub extern "C" fn mls_message_wire_format(bytes: &[u8], wire_format: &mut u16) -> Outcome
+pub extern "C" fn mls_message_wire_format_prefix(bytes: &[u8], wire_format: &mut u16) -> Outcome
     ensures status { Decides mls_message_format bytes.now result.status }
     ensures taken { IsTaken mls_message_format bytes.now result.status result.taken }
     ensures rejected { IsRejection ⟦<MLSMessage as DeserializeBytes>⟧.names

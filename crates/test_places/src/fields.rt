@@ -16,7 +16,7 @@ use tls13_fields::{
 /// The places of the fields of the message that the bytes begin with. None: no call has this name.
 pub fn answer_of(alloc: Global, name: &str, bytes: &[u8]) -> Result<Option<Answer>, AllocError> {
     let answer = match name {
-        "tls13_client_hello_locate" => {
+        "tls13_client_hello_locate_prefix" => {
             let it = ClientHelloFields::locate(bytes);
             let front = [it.legacy_version, it.random, it.legacy_session_id];
             let back = [
@@ -26,22 +26,22 @@ pub fn answer_of(alloc: Global, name: &str, bytes: &[u8]) -> Result<Option<Answe
             ];
             located::<ClientHello>(alloc, bytes, &front, &back)?
         }
-        "tls13_server_hello_locate" => {
+        "tls13_server_hello_locate_prefix" => {
             let it = ServerHelloFields::locate(bytes);
             let front = [it.legacy_version, it.random, it.legacy_session_id_echo];
             let back = [it.cipher_suite, it.legacy_compression_method, it.extensions];
             located::<ServerHello>(alloc, bytes, &front, &back)?
         }
-        "tls13_certificate_locate" => {
+        "tls13_certificate_locate_prefix" => {
             let it = CertificateFields::locate(bytes);
             let all = [it.certificate_request_context, it.certificate_list];
             located::<Certificate>(alloc, bytes, &all, &[])?
         }
-        "tls13_certificate_verify_locate" => {
+        "tls13_certificate_verify_locate_prefix" => {
             let it = CertificateVerifyFields::locate(bytes);
             located::<CertificateVerify>(alloc, bytes, &[it.algorithm, it.signature], &[])?
         }
-        "tls13_new_session_ticket_locate" => {
+        "tls13_new_session_ticket_locate_prefix" => {
             let it = NewSessionTicketFields::locate(bytes);
             let front = [it.ticket_lifetime, it.ticket_age_add, it.ticket_nonce];
             located::<NewSessionTicket>(alloc, bytes, &front, &[it.ticket, it.extensions])?
@@ -53,29 +53,29 @@ pub fn answer_of(alloc: Global, name: &str, bytes: &[u8]) -> Result<Option<Answe
 
 fn answer_of_others(alloc: Global, name: &str, bytes: &[u8]) -> Result<Option<Answer>, AllocError> {
     let answer = match name {
-        "tls13_handshake_locate" => {
+        "tls13_handshake_locate_prefix" => {
             let it = HandshakeFields::locate(bytes);
             located::<Handshake>(alloc, bytes, &[it.msg_type, it.body], &[])?
         }
-        "tls13_encrypted_extensions_locate" => {
+        "tls13_encrypted_extensions_locate_prefix" => {
             let it = EncryptedExtensionsFields::locate(bytes);
             located::<EncryptedExtensions>(alloc, bytes, &[it.extensions], &[])?
         }
-        "tls13_certificate_request_locate" => {
+        "tls13_certificate_request_locate_prefix" => {
             let it = CertificateRequestFields::locate(bytes);
             let all = [it.certificate_request_context, it.extensions];
             located::<CertificateRequest>(alloc, bytes, &all, &[])?
         }
-        "tls13_key_update_locate" => {
+        "tls13_key_update_locate_prefix" => {
             let it = KeyUpdateFields::locate(bytes);
             located::<KeyUpdate>(alloc, bytes, &[it.request_update], &[])?
         }
-        "tls13_tls_plaintext_locate" => {
+        "tls13_tls_plaintext_locate_prefix" => {
             let it = TLSPlaintextFields::locate(bytes);
             let all = [it.kind, it.legacy_record_version, it.fragment];
             located::<TLSPlaintext>(alloc, bytes, &all, &[])?
         }
-        "tls13_tls_ciphertext_locate" => {
+        "tls13_tls_ciphertext_locate_prefix" => {
             let it = TLSCiphertextFields::locate(bytes);
             let all = [
                 it.opaque_type,
@@ -84,7 +84,7 @@ fn answer_of_others(alloc: Global, name: &str, bytes: &[u8]) -> Result<Option<An
             ];
             located::<TLSCiphertext>(alloc, bytes, &all, &[])?
         }
-        "tls13_alert_locate" => {
+        "tls13_alert_locate_prefix" => {
             let it = AlertFields::locate(bytes);
             located::<Alert>(alloc, bytes, &[it.level, it.description], &[])?
         }

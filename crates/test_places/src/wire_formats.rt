@@ -7,7 +7,7 @@ use tls_codec_outcome::{ACCEPTED, validate};
 
 /// The wire format of the message that the bytes begin with. None: no call has this name.
 pub fn answer_of(alloc: Global, name: &str, bytes: &[u8]) -> Result<Option<Answer>, AllocError> {
-    if name != "mls_message_wire_format" {
+    if name != "mls_message_wire_format_prefix" {
         return Ok(None);
     }
     let outcome = validate::<MLSMessage>(bytes);

@@ -41,7 +41,10 @@ use tls13_fields::{
 
 /// `Handshake` (RFC 8446, section 4), and where its fields are.
 #[unsafe(no_mangle)]
-pub extern "C" fn tls13_handshake_locate(bytes: &[u8], fields: &mut HandshakeFields) -> Outcome
+pub extern "C" fn tls13_handshake_locate_prefix(
+    bytes: &[u8],
+    fields: &mut HandshakeFields,
+) -> Outcome
     ensures status { Decides handshake_format bytes.now result.status }
     ensures taken { IsTaken handshake_format bytes.now result.status result.taken }
     ensures rejected { IsRejection ⟦<Handshake as DeserializeBytes>⟧.names
@@ -58,7 +61,10 @@ pub extern "C" fn tls13_handshake_locate(bytes: &[u8], fields: &mut HandshakeFie
 
 /// `ClientHello` (RFC 8446, section 4.1.2), and where its fields are.
 #[unsafe(no_mangle)]
-pub extern "C" fn tls13_client_hello_locate(bytes: &[u8], fields: &mut ClientHelloFields) -> Outcome
+pub extern "C" fn tls13_client_hello_locate_prefix(
+    bytes: &[u8],
+    fields: &mut ClientHelloFields,
+) -> Outcome
     ensures status { Decides client_hello_format bytes.now result.status }
     ensures taken { IsTaken client_hello_format bytes.now result.status result.taken }
     ensures rejected { IsRejection ⟦<ClientHello as DeserializeBytes>⟧.names
@@ -75,7 +81,10 @@ pub extern "C" fn tls13_client_hello_locate(bytes: &[u8], fields: &mut ClientHel
 
 /// `ServerHello` (RFC 8446, section 4.1.3), and where its fields are.
 #[unsafe(no_mangle)]
-pub extern "C" fn tls13_server_hello_locate(bytes: &[u8], fields: &mut ServerHelloFields) -> Outcome
+pub extern "C" fn tls13_server_hello_locate_prefix(
+    bytes: &[u8],
+    fields: &mut ServerHelloFields,
+) -> Outcome
     ensures status { Decides server_hello_format bytes.now result.status }
     ensures taken { IsTaken server_hello_format bytes.now result.status result.taken }
     ensures rejected { IsRejection ⟦<ServerHello as DeserializeBytes>⟧.names
@@ -92,7 +101,7 @@ pub extern "C" fn tls13_server_hello_locate(bytes: &[u8], fields: &mut ServerHel
 
 /// `EncryptedExtensions` (RFC 8446, section 4.3.1), and where its fields are.
 #[unsafe(no_mangle)]
-pub extern "C" fn tls13_encrypted_extensions_locate(
+pub extern "C" fn tls13_encrypted_extensions_locate_prefix(
     bytes: &[u8],
     fields: &mut EncryptedExtensionsFields,
 ) -> Outcome
@@ -113,7 +122,7 @@ pub extern "C" fn tls13_encrypted_extensions_locate(
 
 /// `CertificateRequest` (RFC 8446, section 4.3.2), and where its fields are.
 #[unsafe(no_mangle)]
-pub extern "C" fn tls13_certificate_request_locate(
+pub extern "C" fn tls13_certificate_request_locate_prefix(
     bytes: &[u8],
     fields: &mut CertificateRequestFields,
 ) -> Outcome
@@ -134,7 +143,10 @@ pub extern "C" fn tls13_certificate_request_locate(
 
 /// `Certificate` (RFC 8446, section 4.4.2), and where its fields are.
 #[unsafe(no_mangle)]
-pub extern "C" fn tls13_certificate_locate(bytes: &[u8], fields: &mut CertificateFields) -> Outcome
+pub extern "C" fn tls13_certificate_locate_prefix(
+    bytes: &[u8],
+    fields: &mut CertificateFields,
+) -> Outcome
     ensures status { Decides certificate_format bytes.now result.status }
     ensures taken { IsTaken certificate_format bytes.now result.status result.taken }
     ensures rejected { IsRejection ⟦<Certificate as DeserializeBytes>⟧.names
@@ -151,7 +163,7 @@ pub extern "C" fn tls13_certificate_locate(bytes: &[u8], fields: &mut Certificat
 
 /// `CertificateVerify` (RFC 8446, section 4.4.3), and where its fields are.
 #[unsafe(no_mangle)]
-pub extern "C" fn tls13_certificate_verify_locate(
+pub extern "C" fn tls13_certificate_verify_locate_prefix(
     bytes: &[u8],
     fields: &mut CertificateVerifyFields,
 ) -> Outcome
@@ -171,7 +183,7 @@ pub extern "C" fn tls13_certificate_verify_locate(
 
 /// `NewSessionTicket` (RFC 8446, section 4.6.1), and where its fields are.
 #[unsafe(no_mangle)]
-pub extern "C" fn tls13_new_session_ticket_locate(
+pub extern "C" fn tls13_new_session_ticket_locate_prefix(
     bytes: &[u8],
     fields: &mut NewSessionTicketFields,
 ) -> Outcome
@@ -191,7 +203,10 @@ pub extern "C" fn tls13_new_session_ticket_locate(
 
 /// `KeyUpdate` (RFC 8446, section 4.6.3), and where its fields are.
 #[unsafe(no_mangle)]
-pub extern "C" fn tls13_key_update_locate(bytes: &[u8], fields: &mut KeyUpdateFields) -> Outcome
+pub extern "C" fn tls13_key_update_locate_prefix(
+    bytes: &[u8],
+    fields: &mut KeyUpdateFields,
+) -> Outcome
     ensures status { Decides key_update_format bytes.now result.status }
     ensures taken { IsTaken key_update_format bytes.now result.status result.taken }
     ensures rejected { IsRejection ⟦<KeyUpdate as DeserializeBytes>⟧.names
@@ -208,7 +223,7 @@ pub extern "C" fn tls13_key_update_locate(bytes: &[u8], fields: &mut KeyUpdateFi
 
 /// `TLSPlaintext` (RFC 8446, section 5.1), and where its fields are.
 #[unsafe(no_mangle)]
-pub extern "C" fn tls13_tls_plaintext_locate(
+pub extern "C" fn tls13_tls_plaintext_locate_prefix(
     bytes: &[u8],
     fields: &mut TLSPlaintextFields,
 ) -> Outcome
@@ -228,7 +243,7 @@ pub extern "C" fn tls13_tls_plaintext_locate(
 
 /// `TLSCiphertext` (RFC 8446, section 5.2), and where its fields are.
 #[unsafe(no_mangle)]
-pub extern "C" fn tls13_tls_ciphertext_locate(
+pub extern "C" fn tls13_tls_ciphertext_locate_prefix(
     bytes: &[u8],
     fields: &mut TLSCiphertextFields,
 ) -> Outcome
@@ -248,7 +263,7 @@ pub extern "C" fn tls13_tls_ciphertext_locate(
 
 /// `Alert` (RFC 8446, section 6), and where its fields are.
 #[unsafe(no_mangle)]
-pub extern "C" fn tls13_alert_locate(bytes: &[u8], fields: &mut AlertFields) -> Outcome
+pub extern "C" fn tls13_alert_locate_prefix(bytes: &[u8], fields: &mut AlertFields) -> Outcome
     ensures status { Decides alert_format bytes.now result.status }
     ensures taken { IsTaken alert_format bytes.now result.status result.taken }
     ensures rejected { IsRejection ⟦<Alert as DeserializeBytes>⟧.names

@@ -27,7 +27,7 @@ pub extern "C" fn tls_codec_varint_validate_prefix(bytes: &[u8]) -> Outcome
 
 /// `opaque content<V>` (RFC 9420, section 2.1.2), and where its content is. A list `<V>` has its elements there.
 #[unsafe(no_mangle)]
-pub extern "C" fn tls_codec_opaque_v_locate(bytes: &[u8], content: &mut Span) -> Outcome
+pub extern "C" fn tls_codec_opaque_v_locate_prefix(bytes: &[u8], content: &mut Span) -> Outcome
     ensures status { Decides bytes_format bytes.now result.status }
     ensures taken { IsTaken bytes_format bytes.now result.status result.taken }
     ensures rejected { IsRejection ⟦<VLBytes as DeserializeBytes>⟧.names
@@ -44,7 +44,7 @@ pub extern "C" fn tls_codec_opaque_v_locate(bytes: &[u8], content: &mut Span) ->
 
 /// `opaque content<0..2^8-1>` (RFC 8446, section 3.4), and where its content is.
 #[unsafe(no_mangle)]
-pub extern "C" fn tls_codec_opaque_u8_locate(bytes: &[u8], content: &mut Span) -> Outcome
+pub extern "C" fn tls_codec_opaque_u8_locate_prefix(bytes: &[u8], content: &mut Span) -> Outcome
     ensures status { Decides (counted_bytes_format (fixed_field 1)) bytes.now result.status }
     ensures taken { IsTaken (counted_bytes_format (fixed_field 1)) bytes.now result.status
         result.taken }
@@ -62,7 +62,7 @@ pub extern "C" fn tls_codec_opaque_u8_locate(bytes: &[u8], content: &mut Span) -
 
 /// `opaque content<0..2^16-1>`, and where its content is.
 #[unsafe(no_mangle)]
-pub extern "C" fn tls_codec_opaque_u16_locate(bytes: &[u8], content: &mut Span) -> Outcome
+pub extern "C" fn tls_codec_opaque_u16_locate_prefix(bytes: &[u8], content: &mut Span) -> Outcome
     ensures status { Decides (counted_bytes_format (fixed_field 2)) bytes.now result.status }
     ensures taken { IsTaken (counted_bytes_format (fixed_field 2)) bytes.now result.status
         result.taken }
@@ -80,7 +80,7 @@ pub extern "C" fn tls_codec_opaque_u16_locate(bytes: &[u8], content: &mut Span) 
 
 /// `opaque content<0..2^24-1>`, and where its content is.
 #[unsafe(no_mangle)]
-pub extern "C" fn tls_codec_opaque_u24_locate(bytes: &[u8], content: &mut Span) -> Outcome
+pub extern "C" fn tls_codec_opaque_u24_locate_prefix(bytes: &[u8], content: &mut Span) -> Outcome
     ensures status { Decides (counted_bytes_format (fixed_field 3)) bytes.now result.status }
     ensures taken { IsTaken (counted_bytes_format (fixed_field 3)) bytes.now result.status
         result.taken }

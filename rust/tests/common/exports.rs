@@ -62,76 +62,76 @@ macro_rules! each_message {
     };
 }
 
-/// Passes to a macro each call that finds fields: its name in C, its function, and its struct's
-/// fields in order.
+/// Passes to a macro each call that finds fields: its name in C, its two functions, and its
+/// struct's fields in order.
 #[allow(unused_macros)]
 macro_rules! each_located {
     ($to:ident) => {
         $to! {
-            "tls13_handshake_locate": tls13::locate_handshake,
+            "tls13_handshake_locate_prefix": tls13::locate_handshake, tls13::locate_handshake_prefix,
                 msg_type body;
-            "tls13_client_hello_locate": tls13::locate_client_hello,
+            "tls13_client_hello_locate_prefix": tls13::locate_client_hello, tls13::locate_client_hello_prefix,
                 legacy_version random legacy_session_id cipher_suites legacy_compression_methods extensions;
-            "tls13_server_hello_locate": tls13::locate_server_hello,
+            "tls13_server_hello_locate_prefix": tls13::locate_server_hello, tls13::locate_server_hello_prefix,
                 legacy_version random legacy_session_id_echo cipher_suite legacy_compression_method extensions;
-            "tls13_encrypted_extensions_locate": tls13::locate_encrypted_extensions,
+            "tls13_encrypted_extensions_locate_prefix": tls13::locate_encrypted_extensions, tls13::locate_encrypted_extensions_prefix,
                 extensions;
-            "tls13_certificate_request_locate": tls13::locate_certificate_request,
+            "tls13_certificate_request_locate_prefix": tls13::locate_certificate_request, tls13::locate_certificate_request_prefix,
                 certificate_request_context extensions;
-            "tls13_certificate_locate": tls13::locate_certificate,
+            "tls13_certificate_locate_prefix": tls13::locate_certificate, tls13::locate_certificate_prefix,
                 certificate_request_context certificate_list;
-            "tls13_certificate_verify_locate": tls13::locate_certificate_verify,
+            "tls13_certificate_verify_locate_prefix": tls13::locate_certificate_verify, tls13::locate_certificate_verify_prefix,
                 algorithm signature;
-            "tls13_new_session_ticket_locate": tls13::locate_new_session_ticket,
+            "tls13_new_session_ticket_locate_prefix": tls13::locate_new_session_ticket, tls13::locate_new_session_ticket_prefix,
                 ticket_lifetime ticket_age_add ticket_nonce ticket extensions;
-            "tls13_key_update_locate": tls13::locate_key_update,
+            "tls13_key_update_locate_prefix": tls13::locate_key_update, tls13::locate_key_update_prefix,
                 request_update;
-            "tls13_tls_plaintext_locate": tls13::locate_tls_plaintext,
+            "tls13_tls_plaintext_locate_prefix": tls13::locate_tls_plaintext, tls13::locate_tls_plaintext_prefix,
                 r#type legacy_record_version fragment;
-            "tls13_tls_ciphertext_locate": tls13::locate_tls_ciphertext,
+            "tls13_tls_ciphertext_locate_prefix": tls13::locate_tls_ciphertext, tls13::locate_tls_ciphertext_prefix,
                 opaque_type legacy_record_version encrypted_record;
-            "tls13_alert_locate": tls13::locate_alert,
+            "tls13_alert_locate_prefix": tls13::locate_alert, tls13::locate_alert_prefix,
                 level description;
-            "mls_message_locate": mls::locate_message,
+            "mls_message_locate_prefix": mls::locate_message, mls::locate_message_prefix,
                 version wire_format body;
-            "mls_public_message_locate": mls::locate_public_message,
+            "mls_public_message_locate_prefix": mls::locate_public_message, mls::locate_public_message_prefix,
                 content auth membership_tag;
-            "mls_private_message_locate": mls::locate_private_message,
+            "mls_private_message_locate_prefix": mls::locate_private_message, mls::locate_private_message_prefix,
                 group_id epoch content_type authenticated_data encrypted_sender_data ciphertext;
-            "mls_framed_content_locate": mls::locate_framed_content,
+            "mls_framed_content_locate_prefix": mls::locate_framed_content, mls::locate_framed_content_prefix,
                 group_id epoch sender authenticated_data content_type body;
-            "mls_sender_data_locate": mls::locate_sender_data,
+            "mls_sender_data_locate_prefix": mls::locate_sender_data, mls::locate_sender_data_prefix,
                 leaf_index generation reuse_guard;
-            "mls_key_package_locate": mls::locate_key_package,
+            "mls_key_package_locate_prefix": mls::locate_key_package, mls::locate_key_package_prefix,
                 version cipher_suite init_key leaf_node extensions signature;
-            "mls_leaf_node_locate": mls::locate_leaf_node,
+            "mls_leaf_node_locate_prefix": mls::locate_leaf_node, mls::locate_leaf_node_prefix,
                 encryption_key signature_key credential capabilities leaf_node_source origin extensions signature;
-            "mls_welcome_locate": mls::locate_welcome,
+            "mls_welcome_locate_prefix": mls::locate_welcome, mls::locate_welcome_prefix,
                 cipher_suite secrets encrypted_group_info;
-            "mls_group_secrets_locate": mls::locate_group_secrets,
+            "mls_group_secrets_locate_prefix": mls::locate_group_secrets, mls::locate_group_secrets_prefix,
                 joiner_secret path_secret psks;
-            "mls_group_info_locate": mls::locate_group_info,
+            "mls_group_info_locate_prefix": mls::locate_group_info, mls::locate_group_info_prefix,
                 group_context extensions confirmation_tag signer signature;
-            "mls_group_context_locate": mls::locate_group_context,
+            "mls_group_context_locate_prefix": mls::locate_group_context, mls::locate_group_context_prefix,
                 version cipher_suite group_id epoch tree_hash confirmed_transcript_hash extensions;
-            "mls_commit_locate": mls::locate_commit,
+            "mls_commit_locate_prefix": mls::locate_commit, mls::locate_commit_prefix,
                 proposals path;
-            "mls_proposal_locate": mls::locate_proposal,
+            "mls_proposal_locate_prefix": mls::locate_proposal, mls::locate_proposal_prefix,
                 proposal_type body;
         }
     };
 }
 
-/// Passes to a macro each call that finds the content after a length: its name in C, and its
-/// function.
+/// Passes to a macro each call that finds the content after a length: its name in C, and its two
+/// functions.
 #[allow(unused_macros)]
 macro_rules! each_content {
     ($to:ident) => {
         $to! {
-            "tls_codec_opaque_v_locate": lengths::locate_opaque_v;
-            "tls_codec_opaque_u8_locate": lengths::locate_opaque_u8;
-            "tls_codec_opaque_u16_locate": lengths::locate_opaque_u16;
-            "tls_codec_opaque_u24_locate": lengths::locate_opaque_u24;
+            "tls_codec_opaque_v_locate_prefix": lengths::locate_opaque_v, lengths::locate_opaque_v_prefix;
+            "tls_codec_opaque_u8_locate_prefix": lengths::locate_opaque_u8, lengths::locate_opaque_u8_prefix;
+            "tls_codec_opaque_u16_locate_prefix": lengths::locate_opaque_u16, lengths::locate_opaque_u16_prefix;
+            "tls_codec_opaque_u24_locate_prefix": lengths::locate_opaque_u24, lengths::locate_opaque_u24_prefix;
         }
     };
 }
