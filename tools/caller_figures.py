@@ -7,6 +7,7 @@ program of that crate, those of `tls_validate_prefix` in Rattle too, which takes
 """
 from __future__ import annotations
 
+import json
 import pathlib
 import re
 import subprocess
@@ -17,7 +18,7 @@ import instructions
 from lib import exported
 from lib.libraries import CRATES, ROWS, TOP
 
-TIMED = {"mls_key_package": ("KEY_PACKAGE", "KeyPackage"), "mls_private_message": ("PRIVATE_MESSAGE", "PrivateMessage")}
+TIMED = {"mls_key_package": "KeyPackage", "mls_private_message": "PrivateMessage"}
 
 
 def output_of(words: list[object]) -> str:
@@ -29,11 +30,10 @@ def size(archive: pathlib.Path) -> int:
     return sum(int(line.split()[0]) for line in output_of(["size", archive]).splitlines()[1:])
 
 
-def bench_bytes(name: str) -> bytes:
-    """A message that the tests of tls_codec_bench have."""
-    text = (CRATES / "tls_codec_bench" / "src" / "tests" / "messages.rt").read_text(encoding="utf-8")
-    inside = re.search(rf"static {name}: \[u8; \d+\] = \[(.*?)\];", text, re.S)
-    return bytes(int(it, 16) for it in re.findall("0x([0-9a-f]{2})", inside.group(1)))
+def bench_bytes(case: str) -> bytes:
+    """The message of a case of tls_codec_bench, in the rows that this prints."""
+    text = (CRATES / "tls_codec_bench" / "stdout").read_text(encoding="utf-8")
+    return bytes(json.loads(re.search(rf"^{case} \[\d*\]\t(\[.*\])$", text, re.M).group(1)))
 
 
 def stack(program: pathlib.Path) -> None:
@@ -68,8 +68,8 @@ def main() -> int:
         words = ["cc", "-std=c99", "-O2", "-pthread", "-I", TOP / "c" / "include", "-o", program, source, *built]
         output_of([*words, archives / exported.HEAP, "-Wl,-z,now"])
         stack(program)
-        for message, (name, case) in TIMED.items():
-            data = bench_bytes(name)
+        for message, case in TIMED.items():
+            data = bench_bytes(case)
             row.write_text(f"{message}\t{data.hex()}\n")
             beside = in_rattle.get(case, {})
             beside_it = f", in Rattle {beside['validate']:.0f}" if beside else ""

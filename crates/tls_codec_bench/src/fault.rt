@@ -8,7 +8,7 @@ use std::io;
 /// Why nothing is timed.
 #[derive(Debug, Drop)]
 pub enum BenchFault {
-    /// There is another argument than `run` alone.
+    /// There is another argument than `run` or `check` alone.
     Argument,
     /// The clock doesn't move.
     Clock,

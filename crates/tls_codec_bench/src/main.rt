@@ -1,7 +1,8 @@
 //! `tls_codec_bench` times encoders, decoders, validators and views: those of the library's types, and those of `mls`.
 //!
 //! With no argument it makes each call a few times, and prints the name of each case and the bytes of its
-//! encoding, with a tab between. With the argument `run` it prints a line for each case, with tabs
+//! encoding, with a tab between. With the argument `check` it also prints rows of values and calls
+//! whose answers are known. With the argument `run` it prints a line for each case, with tabs
 //! between: its name, the bytes of its encoding, and the nanoseconds of a call of
 //! `tls_serialize_detached`, of `tls_serialize_into` a vector that is used again, of
 //! `tls_deserialize_bytes`, of `tls_deserialize` over a slice, of `tls_validate_prefix`, and of
@@ -15,24 +16,25 @@
 //!   figures of a case.
 //! - [`timing`]: how long a call takes. [`median`]: the middle one of the batches. [`ticks`]: a
 //!   clock that goes on by a set step.
-//! - [`fault`]: [`BenchFault`](fault::BenchFault), why nothing is timed.
+//! - [`check`]: the rows whose answers are known. [`fault`]: [`BenchFault`](fault::BenchFault), why nothing
+//!   is timed.
 #![tactic(auto)]
 
 mod calls;
 mod cases;
+mod check;
 mod fault;
 mod figures;
 mod in_place;
 mod median;
 mod messages;
 mod noise;
-#[cfg(test)]
-mod tests;
 mod ticks;
 mod timing;
 mod values;
 
 use cases::CASES;
+use check::print_checks;
 use fault::BenchFault;
 use figures::measure;
 use std::env;
@@ -44,6 +46,10 @@ fn main(rt: HostRuntime) -> Result<(), BenchFault> {
     match words.as_slice() {
         [] | [_] => print_sizes(&rt),
         [_, word] if word.as_str() == "run" => print_rows(&rt),
+        [_, word] if word.as_str() == "check" => {
+            print_sizes(&rt)?;
+            print_checks(&rt)
+        }
         _ => Err(BenchFault::Argument),
     }
 }
