@@ -7,10 +7,8 @@ use common::{bytes_of, error_of};
 use std::fs;
 use tls_codec_validators::{Elements, Error, Rejected, lengths, mls, tls13};
 
-/// What is found in all of the bytes, in order.
-type Whole<'a> = Result<Vec<&'a [u8]>, Rejected>;
-/// What is found, in order, and the rest of the bytes.
-type Prefix<'a> = Result<(Vec<&'a [u8]>, &'a [u8]), Rejected>;
+/// What the call returns that needs all of the bytes; and what the call of a prefix does: also the rest of the bytes.
+type Found<'a, T> = (Result<T, Rejected>, Result<(T, &'a [u8]), Rejected>);
 
 /// Writes the function that finds a list's elements, by C's name of the call.
 macro_rules! elements {
@@ -24,10 +22,10 @@ macro_rules! elements {
     };
 }
 
-/// Writes the function that finds a message's fields by both calls, of all of the bytes, and of those that they begin with.
+/// Writes the function that finds a message's fields, in order, by both calls.
 macro_rules! fields {
     ($($name:literal: $locate:path, $prefix:path, $($field:ident)*;)*) => {
-        fn fields<'a>(name: &str, bytes: &'a [u8]) -> Option<(Whole<'a>, Prefix<'a>)> {
+        fn fields<'a>(name: &str, bytes: &'a [u8]) -> Option<Found<'a, Vec<&'a [u8]>>> {
             Some(match name {
                 $($name => (
                     $locate(bytes).map(|it| vec![$(it.$field),*]),
@@ -42,7 +40,7 @@ macro_rules! fields {
 /// Writes the function that finds the content after a length by both calls; nothing is filled of a variable-length integer.
 macro_rules! content {
     ($($name:literal: $locate:path, $prefix:path;)*) => {
-        fn content<'a>(name: &str, bytes: &'a [u8]) -> Option<(Whole<'a>, Prefix<'a>)> {
+        fn content<'a>(name: &str, bytes: &'a [u8]) -> Option<Found<'a, Vec<&'a [u8]>>> {
             Some(match name {
                 $($name => (
                     $locate(bytes).map(|content| vec![content]),
@@ -125,8 +123,8 @@ impl Row {
         assert_eq!(all.len(), found.len() + usize::from(wanted.is_some()));
     }
 
-    /// What the call that needs all of the bytes returns, and rejects if some are left; and what the call of a prefix returns.
-    fn outcomes<T: Clone>(&self, found: impl Fn() -> T) -> (Result<T, Rejected>, Result<(T, &[u8]), Rejected>) {
+    /// The row's outcome: bytes that are left are rejected by the call that needs all of them.
+    fn wanted<T: Clone>(&self, found: impl Fn() -> T) -> Found<'_, T> {
         if !self.is_accepted() {
             return (Err(self.rejected(0)), Err(self.rejected(0)));
         }
@@ -139,11 +137,11 @@ impl Row {
         if let Some(elements) = elements(&self.name, &self.bytes) {
             self.elements_are_in_their_places(elements);
         } else if let Some(found) = fields(&self.name, &self.bytes).or_else(|| content(&self.name, &self.bytes)) {
-            assert_eq!(found, self.outcomes(|| self.places()), "{} {:02x?}", self.name, self.bytes);
+            assert_eq!(found, self.wanted(|| self.places()), "{} {:02x?}", self.name, self.bytes);
         } else {
             assert_eq!(self.name, "mls_message_wire_format_prefix");
             let found = (mls::message_wire_format(&self.bytes), mls::message_wire_format_prefix(&self.bytes));
-            assert_eq!(found, self.outcomes(|| self.filled.parse().expect("a number")), "{:02x?}", self.bytes);
+            assert_eq!(found, self.wanted(|| self.filled.parse().expect("a number")), "{:02x?}", self.bytes);
         }
     }
 }
