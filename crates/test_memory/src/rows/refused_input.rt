@@ -3,11 +3,13 @@
 //! own. The element that it would be is rejected before the list requests room.
 use super::{Requests, Wrong, same};
 use std::alloc::Global;
-use tls_codec::{Deserialize, DeserializeBytes, Error, TlsByteVecU32, VLBytes};
+use tls_codec::{Always, Deserialize, DeserializeBytes, Error, TlsByteVecU32, VLBytes};
+use tls_codec_validate::{Validate, ValidateFor};
 
 pub fn all(alloc: Global, requests: &mut Requests) -> Result<(), Wrong> {
     slices(alloc, requests)?;
-    sources(alloc, requests)
+    sources(alloc, requests)?;
+    validated(alloc, requests)
 }
 
 const EMPTY_ELEMENT: Error = Error::DecodingError("vector element consumed 0 bytes");
@@ -85,4 +87,35 @@ fn sources(alloc: Global, requests: &mut Requests) -> Result<(), Wrong> {
     )?;
     expect_not_read::<TlsByteVecU32>(alloc, requests, 1, &LONG_BYTES, Error::EndOfStream)?;
     Ok(())
+}
+
+// Bytes that are validated first are rejected without a request. The slice path makes one for these.
+fn validated(alloc: Global, requests: &mut Requests) -> Result<(), Wrong> {
+    requests.begin("validated");
+    let bytes = [3, 0, 1, 0].as_slice();
+    let cut_off = Some(Error::EndOfStream);
+    let whole = counted!(
+        requests,
+        0,
+        <Vec<u16>>::tls_deserialize_validated(alloc, bytes)
+    );
+    same(whole.err(), cut_off)?;
+    let prefix = counted!(
+        requests,
+        0,
+        <Vec<u16>>::tls_deserialize_validated_prefix(alloc, bytes)
+    );
+    same(prefix.err(), cut_off)?;
+    let whole = counted!(
+        requests,
+        0,
+        <Always<Vec<u16>>>::tls_deserialize_validated_for(&7u8, alloc, bytes)
+    );
+    same(whole.err(), cut_off)?;
+    let prefix = counted!(
+        requests,
+        0,
+        <Always<Vec<u16>>>::tls_deserialize_validated_prefix_for(&7u8, alloc, bytes)
+    );
+    same(prefix.err(), cut_off)
 }
