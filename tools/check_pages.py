@@ -7,7 +7,8 @@
   no quote if it is `console`, or after a line <!-- not quoted --> or <!-- file: PATH -->.
 - A link that isn't of another site has to lead to a file of the repository, and to a heading of it.
 - A name in `code` that is a path under crates/, docs/, tools/ or .ci/, or has an underscore in it, has to occur in the repository;
-  names of what was before, in CHANGELOG.md, and a few of elsewhere don't.
+  names of what was before, in CHANGELOG.md, and a few of elsewhere don't. So has a path under the short name of a crate (page_limits.SHORT),
+  `wire/src/gather.rt`, or `wire/Digits` for wire/specs/Digits.antt, and a file's name alone.
 - A path in a block after <!-- not quoted --> has to be there, and src/lib.rt in the crate that the block names before it. A * is any name,
   NAME, CRATE, PROGRAM and .. are what a reader puts in; CHANGELOG.md and what a build makes don't count. In CONTRIBUTING.md a name in such
   a block that has an underscore in it has to occur under crates/, c/, python/, rust/, tools/ or .ci/.
@@ -46,6 +47,10 @@ READERS = re.compile(r"NAME|CRATE|PROGRAM|\.\.|/out\b")
 # A name in a list of CONTRIBUTING.md, and what a reader puts in.
 IN_LIST = re.compile(r"(?<![\w*])[A-Za-z]\w*_\w*[A-Za-z0-9](?![\w*])")
 OF_READER = {"NAME", "CRATE", "PROGRAM", "WHAT_IS_WRONG"}
+# A path under the short name of a crate; a file's name alone, and those of files of the kit.
+SHORT = re.compile(rf"({'|'.join(page_limits.SHORT)})/([\w/.-]*)")
+FILE = re.compile(r"\w[\w-]*\.(?:rt|antt|edit|py|sh|md|tls|notes|svg|tsv)")
+FILES_OF_KIT = {"START-HERE.md", "SHORTER_PROOFS.md"}
 HEAD = re.compile(r"(?:pub )?(?:final )?(?:const |unsafe )*fn ")
 CLAUSES = ("requires", "ensures")
 
@@ -147,13 +152,25 @@ def check_links(page: pathlib.Path, lines: list[str]) -> Iterator[Fault]:
                 yield number, f"no such heading: {link}"
 
 
-def check_names(lines: list[str], words: set[str]) -> Iterator[Fault]:
-    """The paths and names in `code` of a page that the repository doesn't have."""
+def in_full(name: str) -> str:
+    """A path under the short name of a crate, from the top on. A name alone is one of specs/."""
+    short, path = SHORT.fullmatch(name).groups()
+    return f"crates/{page_limits.SHORT[short]}/{path if not path or '/' in path else f'specs/{path}.antt'}"
+
+
+def check_names(lines: list[str], words: set[str], files: set[str]) -> Iterator[Fault]:
+    """The paths and names in `code` of a page that the repository doesn't have: these words, and these names of files."""
     for number, line in prose(lines):
         for name in CODE.findall(line):
             if re.fullmatch(r"(?:crates|docs|tools|\.ci)/[\w/.-]+", name):
                 if "/out/" not in name and not (TOP / name).exists():
                     yield number, f"no such file: {name}"
+            elif SHORT.fullmatch(name):
+                if not (TOP / in_full(name)).exists():
+                    yield number, f"no such file: {in_full(name)}"
+            elif FILE.fullmatch(name):
+                if name not in files | FILES_OF_KIT:
+                    yield number, f"no file has this name: {name}"
             elif re.fullmatch(r"[a-z]\w*_\w*[a-z0-9]", name) and name not in words | ELSEWHERE:
                 yield number, f"no such name: {name}"
 
@@ -240,8 +257,12 @@ def selftest() -> list[str]:
         "no file of a quote": check_quotes(["`src/other.rt`", "```rust", head, "```"], files),
         "a dead link": check_links(page, ["[one](docs/NOWHERE.md)"]),
         "no heading": check_links(page, ["[one](#nowhere)"]),
-        "no name": check_names(["`no_such_name`"], {"name"}),
-        "no path": check_names(["`tools/nowhere.py`"], set()),
+        "no name": check_names(["`no_such_name`"], {"name"}, set()),
+        "no path": check_names(["`tools/nowhere.py`"], set(), set()),
+        "no path under a short name": check_names(["`wire/src/nowhere.rt`"], set(), set()),
+        "no folder under a short name": check_names(["`base/src/nowhere/`"], set(), set()),
+        "no file of specs": check_names(["`grammar/Nowhere`"], set(), set()),
+        "no file of a name": check_names(["`nowhere.rt` in `base/src/`"], set(), {"lib.rt"}),
         "no path in a block": in_block("tools/nowhere.py"),
         "no such names in a block": in_block("tools/nowhere_*.py"),
         "no path of a crate in a block": in_block("crates/ct/src/, src/nowhere.rt"),
@@ -253,7 +274,8 @@ def selftest() -> list[str]:
         "a name of a script": scripts_imported({"one.py": "from dialect import words_in\n"}),
         **planted_arrows(),
     }
-    names = check_names(["`one_name` of `tools/check_pages.py`"], {"one_name"})
+    in_code = "`one_name` of `tools/check_pages.py`, `wire/src/lib.rt`, `wire/`, `base/src/lists/`, `grammar/Grammar`, `lib.rt`"
+    names = check_names([in_code], {"one_name"}, {"lib.rt"})
     sound = [*quote(head, clause, other, "{"), *check_links(page, ["[one](docs/MAP.md)"]), *names]
     sound += in_block("src/one.rt", "tools/check_*, tools/.., crates/NAME/src/one.rt", "crates/ct/: src/lib.rt, runs/NAME; c/out")
     sound += check_lists(block("one_name.py, NAME_c, tls_PROGRAM, check_*, .._of", "wrong/WHAT_IS_WRONG.edit"), {"one_name"})
@@ -265,6 +287,7 @@ def selftest() -> list[str]:
 def main() -> int:
     files = sources("crates", "c", "python", "rust")
     words, failed = words_of(files), set()
+    names = {path.name for path in files_of_clone()}
     for text in selftest():
         print(text)
         failed.add("selftest")
@@ -273,7 +296,7 @@ def main() -> int:
         lines = page.read_text().split("\n")
         found = [*check_quotes(lines, files), *check_links(page, lines), *check_merged(lines)]
         if page.name != "CHANGELOG.md":
-            found += [*check_names(lines, words), *check_blocks(lines)]
+            found += [*check_names(lines, words, names), *check_blocks(lines)]
         if page.name == "CONTRIBUTING.md":
             found += check_lists(lines, words | words_of(sources("tools", ".ci")))
         found += ((number, f"{word!r}: {better}") for number, word, better in dialect.findings(page))

@@ -5,8 +5,8 @@ Fewer fail: no test goes unseen. More fail too, with the line to write, as do a 
 `mod NAME;` names each file that has tests in the file above it, and that one too, up to lib.rt or main.rt.
 
 Before that it tries itself on crates with one fault each, on counts tools/lib/counts.sh, with which .ci/run and quick compare what scripts
-count, and on a clone whose files change tools/lib/state.sh, by which .ci/run notices that. Prints what isn't so; last 'N passed, N failed',
-a crate each, and one for what was tried.
+count, and on a clone whose files change tools/lib/state.sh, with which .ci/run notices that. Prints what isn't so; last 'N passed, N
+failed', a crate each, and one for what was tried.
 """
 from __future__ import annotations
 
@@ -123,7 +123,7 @@ def wrong_comparisons() -> list[str]:
     return [f"selftest: counts.sh doesn't say {it!r}" for it in wanted if it not in said]
 
 
-# Commands in a clone with changes, after each of which `changes` of state.sh says something else, or the same; `commit` says the same.
+# Commands in a clone with changes. After one `changes` of state.sh says something else, or the same; `commit` always says the same.
 CHANGED = {
     "a change of a changed file": "echo two >changed",
     "a change of another file": "echo one >kept",

@@ -130,7 +130,7 @@ def table_of(trait: str) -> str:
 
 
 def lone_aliases(crate: str) -> dict[str, str]:
-    """The types of a crate's other names, by these, but for the names that are of a width."""
+    """The types of a crate's other names, by these, except the names that are of a width."""
     sources = type_tests.texts((CRATES / crate / "src").rglob("*.rt"))[0]
     return {name: of for name, of in ALIAS.findall(sources) if unnumbered(name) == name}
 

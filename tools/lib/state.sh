@@ -8,7 +8,7 @@ commit() {
   echo "commit $(git rev-parse HEAD 2>/dev/null || echo none), $state"
 }
 
-# A hash of what differs from the commit: each change of a file that it has, and the files that it lacks, but for those that git ignores.
+# A hash of what differs from the commit: each change of a file that it has, and the files that it lacks, except those that git ignores.
 changes() {
   {
     git diff --binary --no-ext-diff HEAD
