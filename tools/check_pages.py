@@ -7,11 +7,13 @@
   no quote if it is `console`, or after a line <!-- not quoted --> or <!-- file: PATH -->.
 - A link that isn't of another site has to lead to a file of the repository, and to a heading of it.
 - A name in `code` that is a path under crates/, docs/, tools/ or .ci/, or has an underscore in it, has to occur in the repository;
-  names of what was before, in CHANGELOG.md, and a few of elsewhere don't. So has a path under the short name of a crate (page_limits.SHORT),
+  names of what was before, in CHANGELOG.md, and a few of elsewhere don't. So has a path under a crate's short name (page_limits.SHORT), as
   `wire/src/gather.rt`, or `wire/Digits` for wire/specs/Digits.antt, and a file's name alone.
 - A path in a block after <!-- not quoted --> has to be there, and src/lib.rt in the crate that the block names before it. A * is any name,
   NAME, CRATE, PROGRAM and .. are what a reader puts in; CHANGELOG.md and what a build makes don't count. In CONTRIBUTING.md a name in such
   a block that has an underscore in it has to occur under crates/, c/, python/, rust/, tools/ or .ci/.
+- In docs/API.md each function in a `rust` block after <!-- not quoted --> is one of the library, crates/tls_codec*, with that head: the
+  layout, lifetimes and a stroke before a parameter don't count. And each trait and struct there is one of the library.
 - No line is one that a merge left.
 - No word is one of the dialect (tools/dialect.py). The pages are short, and their reading lists closed (tools/page_limits.py).
 - The pictures are what tools/pictures.py draws, and the arrows between all crates those of crates.txt. No module of tools/lib imports a
@@ -51,6 +53,9 @@ OF_READER = {"NAME", "CRATE", "PROGRAM", "WHAT_IS_WRONG"}
 SHORT = re.compile(rf"({'|'.join(page_limits.SHORT)})/([\w/.-]*)")
 FILE = re.compile(r"\w[\w-]*\.(?:rt|antt|edit|py|sh|md|tls|notes|svg|tsv)")
 FILES_OF_KIT = {"START-HERE.md", "SHORTER_PROOFS.md"}
+# A function with its head, and the name of a trait or a struct.
+FUNCTION = re.compile(r"\bfn (\w+)(.*?)(?:;\s|\{|\n\s*(?:requires|ensures|where)\b)", re.S)
+DECLARED = re.compile(r"\bpub (?:trait|struct) (\w+)")
 HEAD = re.compile(r"(?:pub )?(?:final )?(?:const |unsafe )*fn ")
 CLAUSES = ("requires", "ensures")
 
@@ -180,10 +185,10 @@ def is_there(path: str) -> bool:
     return bool(READERS.search(path)) or any(TOP.glob(path.rstrip("./")))
 
 
-def not_quoted(lines: list[str]) -> Iterator[list[tuple[int, str]]]:
-    """The lines of each block that is no quote, by number."""
-    for words, _, quote in blocks(lines):
-        if [line.strip() for line in words if line.strip()][-1:] == ["<!-- not quoted -->"]:
+def not_quoted(lines: list[str], kinds: tuple[str, ...] = ()) -> Iterator[list[tuple[int, str]]]:
+    """The lines of each block that is no quote, of any kind or of these, by number."""
+    for words, kind, quote in blocks(lines):
+        if [line.strip() for line in words if line.strip()][-1:] == ["<!-- not quoted -->"] and (not kinds or kind in kinds):
             yield quote
 
 
@@ -193,6 +198,23 @@ def check_lists(lines: list[str], words: set[str]) -> Iterator[Fault]:
         for name in IN_LIST.findall(line):
             if name not in words and not OF_READER & {name, *name.split("_")}:
                 yield number, f"no such name in the tree: {name}"
+
+
+def heads_in(text: str) -> set[tuple[str, str]]:
+    """The functions of a text, with their heads, without comments, lifetimes and layout."""
+    found = set()
+    for name, head in FUNCTION.findall(re.sub(r"//.*", "", text) + "\n"):
+        head = "".join(re.sub(r"'\w+(?:: *'\w+)?,?|\b_(?=\w)", "", head).split()).replace("<>", "")
+        found.add((name, re.sub(r",(?=[)>])", "", head)))
+    return found
+
+
+def check_declared(lines: list[str], library: str) -> Iterator[Fault]:
+    """The functions, traits and structs in `rust` blocks that are no quotes which this text of the library doesn't have."""
+    heads, names = heads_in(library), set(DECLARED.findall(library))
+    for number, line in (it for block in not_quoted(lines, ("rust",)) for it in block):
+        yield from ((number, f"no such function: {name}{head}") for name, head in heads_in(line) - heads)
+        yield from ((number, f"no such type or trait: {name}") for name in DECLARED.findall(line) if name not in names)
 
 
 def check_blocks(lines: list[str]) -> Iterator[Fault]:
@@ -251,6 +273,10 @@ def selftest() -> list[str]:
     def in_block(*text: str) -> Iterator[Fault]:
         return check_blocks(block(*text))
 
+    def declared(line: str) -> Iterator[Fault]:
+        held = "fn held<\n    'a,\n    T,\n>(_alloc: Global, of: &'a T) -> Held<'a, T>\n{ }\npub struct Held<T>(T);"
+        return check_declared(["<!-- not quoted -->", "```rust", line, "```"], f"{head}\n    {other}\n{{\n}}\n{held}")
+
     planted = {
         "another line": quote(head, "requires odd { x }", other),
         "a dropped clause": quote(head, clause, "{"),
@@ -268,6 +294,13 @@ def selftest() -> list[str]:
         "no path of a crate in a block": in_block("crates/ct/src/, src/nowhere.rt"),
         "no name in a list": check_lists(block("one_name (no_such_name)"), {"one_name", "no_such"}),
         "no name of capitals in a list": check_lists(block("", "NO_NAMES in one_name.py"), {"one_name"}),
+        "no function": declared("fn split(x: u8) -> u8;"),
+        "a function with another head": declared("fn half(x: u16) -> u8;"),
+        "a function with another result": declared("fn half(x: u8) -> u16;"),
+        "a function without a parameter": declared("fn held<T>(of: &T) -> Held<'_, T>;"),
+        "a function without a reference": declared("fn held<T>(alloc: Global, of: T) -> Held<'_, T>;"),
+        "no trait": declared("pub trait Halves { fn half(x: u8) -> u8; }"),
+        "no struct": declared("pub struct Other<T>(pub T);"),
         "a line of a merge": check_merged(["<<<<<<< HEAD"]),
         "a word of the dialect": dialect.words_in("It stands there."),
         "a script in a module": scripts_imported({"one.py": "import re\n    import dialect\n"}),
@@ -280,6 +313,7 @@ def selftest() -> list[str]:
     sound += in_block("src/one.rt", "tools/check_*, tools/.., crates/NAME/src/one.rt", "crates/ct/: src/lib.rt, runs/NAME; c/out")
     sound += check_lists(block("one_name.py, NAME_c, tls_PROGRAM, check_*, .._of", "wrong/WHAT_IS_WRONG.edit"), {"one_name"})
     sound += [*check_merged(["==="]), *dialect.words_in("It is there."), *scripts_imported({"one.py": "from lib.blocks import prose\n"})]
+    sound += [*declared("fn held<T>(alloc: Global, of: &T) -> Held<'_, T>; // fn one()"), *declared("pub struct Held<T>(pub T); fn half(x: u8) -> u8;")]
     missed = [f"selftest: not found: {fault}" for fault, found in planted.items() if not list(found)]
     return missed + [f"selftest: found: {it}" for it in sound]
 
@@ -288,6 +322,7 @@ def main() -> int:
     files = sources("crates", "c", "python", "rust")
     words, failed = words_of(files), set()
     names = {path.name for path in files_of_clone()}
+    library = "\n".join("\n".join(text) for path, text in files.items() if re.match(r"crates/tls_codec\w*/src/", path))
     for text in selftest():
         print(text)
         failed.add("selftest")
@@ -299,6 +334,8 @@ def main() -> int:
             found += [*check_names(lines, words, names), *check_blocks(lines)]
         if page.name == "CONTRIBUTING.md":
             found += check_lists(lines, words | words_of(sources("tools", ".ci")))
+        if page.name == "API.md":
+            found += check_declared(lines, library)
         found += ((number, f"{word!r}: {better}") for number, word, better in dialect.findings(page))
         for number, text in sorted(found):
             print(f"{page.relative_to(TOP)}:{number}: {text}")
