@@ -313,7 +313,8 @@ def selftest() -> list[str]:
     sound += in_block("src/one.rt", "tools/check_*, tools/.., crates/NAME/src/one.rt", "crates/ct/: src/lib.rt, runs/NAME; c/out")
     sound += check_lists(block("one_name.py, NAME_c, tls_PROGRAM, check_*, .._of", "wrong/WHAT_IS_WRONG.edit"), {"one_name"})
     sound += [*check_merged(["==="]), *dialect.words_in("It is there."), *scripts_imported({"one.py": "from lib.blocks import prose\n"})]
-    sound += [*declared("fn held<T>(alloc: Global, of: &T) -> Held<'_, T>; // fn one()"), *declared("pub struct Held<T>(pub T); fn half(x: u8) -> u8;")]
+    sound += declared("fn held<T>(alloc: Global, of: &T) -> Held<'_, T>; // fn one()")
+    sound += declared("pub struct Held<T>(pub T); fn half(x: u8) -> u8;")
     missed = [f"selftest: not found: {fault}" for fault, found in planted.items() if not list(found)]
     return missed + [f"selftest: found: {it}" for it in sound]
 
