@@ -195,7 +195,7 @@ def wrong_statuses(listed: list[list[str]], numbers: dict[str, int], never: set[
     for name, number in numbers.items():
         right = set() if name in never else {str(number)}
         if stated.get(name, set()) - {""} != right:
-            yield f"docs/REFUSALS.md: the status of {name} is {number}" if right else f"docs/REFUSALS.md: no call returns {name}, with a status"
+            yield f"docs/REFUSALS.md: {name} has {f'the status {number}' if right else 'no status, since no call returns it'}"
 
 
 def status_findings() -> tuple[list[str], int]:
