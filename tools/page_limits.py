@@ -28,7 +28,7 @@ from lib.libraries import CALLER_PAGES, CRATES, PAGES, TOP
 
 RECORDS = TOP / "docs/DECISIONS.md"
 MAX_WORDS = 15_000
-MAX_IN_BLOCKS = 4_000
+MAX_IN_BLOCKS = 4_100
 # The kinds of blocks that are code.
 CODE = ("c", "python", "rust")
 SCREEN = 32
