@@ -7,7 +7,7 @@ such as `TlsVecU8` is under the generic type that it names; an exported name tha
 Types that a context decides are in `contexts.rt`, and are held to the traits in a context too: such a type has no format but one for each
 context, so its line is one of `SameFormat` and not of `Means`. Each that has a decoder from a slice, and each of `tls_codec_cases`, is
 validated by an impl in `tls_codec_validate`, without a context or in one. Each impl there has a line in its `types.rt`, which says where
-bytes are rejected, or of `Keyed` what its key is (PINS). No line says of a type what it is by that type's own impl.
+bytes are rejected, or of `Keyed` what its key is (PINS). No line says of a type what it is by that type's own impl, and none has a premise.
 Each has a row in docs/API.md, with its crate and its traits, and so have the types of std that `tls_codec_base` gives them to;
 each name there is such a type's. What it stands for and its format there are in words of its lines of `Means`, or in short ones
 (SHORT_FOR). Each variant of `Error` is among the words for contracts, and each line that exports names can be read. No type that generated
@@ -222,7 +222,7 @@ def rows() -> list[Row]:
 def meanings(types: str) -> dict[str, set[str]]:
     """The words of the lines of `Means` in these tables, by the types without their widths."""
     found: dict[str, set[str]] = {}
-    for of, said in re.findall(r"\bMeans ⟦<(.*?) as Size>⟧(.*?) \}\n", types, re.S):
+    for of, said in ((of, said) for _, of, trait, _, said in PIN.findall(types) if trait == "Size"):
         name = re.match(TYPE, of.replace("'a ", ""))
         found.setdefault(unnumbered(name[1] or name[2]), set()).update(WORD.findall(said))
     return found
@@ -292,6 +292,7 @@ def selftest(types: str, equality: str, page: list[Row]) -> Iterator[str]:
     """The planted faults that no check finds, each in a type that has none otherwise."""
     name, traits = "TlsVarInt", {"Size", "Serialize", "SerializeBytes", "Deserialize", "DeserializeBytes", "PartialEq"}
     source, alike = f"ensures source {{ SameSourceNames ⟦<{name} as Deserialize>⟧", f"ensures integer {{ EqualWhereAlike ⟦<{name} as"
+    comment = f"// ensures {{ Means ⟦<{name} as Size>⟧ trees varint_format }}\n"
     planted = {
         "no line of a type": missing(name, traits, types.replace(f"⟦<{name} as Size>⟧", ""), equality),
         "no line of a decoder": missing(name, traits, types.replace(f"⟦<{name} as DeserializeBytes>⟧", ""), equality),
@@ -304,10 +305,12 @@ def selftest(types: str, equality: str, page: list[Row]) -> Iterator[str]:
         "a row of no type": without_type(Row({name}, "base", {"S"}), {("vec", name)}),
         "a row without a name": without_type(Row(set(), "base", {"S"}), {("base", name)}),
         "another meaning": unlike(Row({name}, "base", {"S"}, "`trees x`"), meanings(types)),
+        "a meaning in a comment": unlike(Row({name}, "base", {"S"}, "`trees x`"), meanings(types + comment)),
         "another format": unlike(Row({name}, "base", {"S"}, "", "`number_format k`, k bytes"), meanings(types)),
         "an error": errors_lacking("EndOfStream"),
         "a name that generated code imports": not_reserved('"Choice" "Size"'),
         "a line of exports": exports_unread("pub use tls_codec_base::*;\n"),
+        "a premise": premises(types.replace("pub fn numbers<'a>()\n", "pub fn numbers<'a>()\n    requires { 0 ≡ 1 }\n")),
     }
     yield from (f"selftest: not found: {fault}" for fault, found in planted.items() if not list(found))
     sound = [missing(name, traits, types, equality), not_in_page("tls_codec_wire", name, traits, page)]
@@ -336,6 +339,11 @@ def pins_unseen(sources: str, table: str, pins: Pins, line: str) -> Iterator[str
     yield from (f"selftest: not found: {fault}" for fault, texts in planted.items() if not any(not_pinned(*texts, pins)))
 
 
+def premises(*tables: str) -> Iterator[str]:
+    """The premises of these tables, without which a line need not hold."""
+    yield from (f"a table has a premise: {line.strip()}" for table in tables for line in re.findall(r"^ *requires\b.*", table, re.M))
+
+
 def equals_unseen(sources: str, equality: str) -> Iterator[str]:
     """The planted faults in this text of equality.rt that aren't found: each line of a type of std that is gone, and others."""
     line = "    ensures u16 { EqualWhereAlike ⟦<u16 as Size>⟧.plain ⟦<u16 as PartialEq>⟧.eq }"
@@ -360,6 +368,7 @@ def pins(crates: set[str]) -> Iterator[bool]:
     yield report(pins_unseen(sources, types, MEANT, "    ensures u16 { Means ⟦<u16 as Size>⟧ Number (number_format 2) }"))
     line = "    ensures u16_source { SameSourceNames ⟦<u16 as Deserialize>⟧.names (ReadRefused 2) }"
     yield report([*pins_unseen(sources, types, MEANT, line), *equals_unseen(sources, equality)])
+    yield report(premises(places, types, equality))
     yield from map(report, [*not_pinned(*of_validators), *not_pinned(sources, types, MEANT), not_equal(sources, equality)])
 
 
