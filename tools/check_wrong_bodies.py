@@ -25,9 +25,8 @@ import sys
 import tempfile
 from collections.abc import Iterator
 
-from lib import edits
+from lib import edits, type_tests
 from lib.libraries import CRATES, TOP, Libraries
-from lib.type_tests import parts
 
 FUNCTION = re.compile(r'( *)(pub )?(?:final |const |unsafe |extern "C" )*fn (?:r#)?(\w+)')
 TYPE = re.compile(r"^(?:pub(?:\(\w+\))? )?(?:struct|enum) (\w+)", re.M)
@@ -171,8 +170,13 @@ def owner(lines: list[str]) -> str:
 
 def with_parameters(text: str) -> str:
     """A type in the path of its own method, as rattle writes it where the impl isn't for all parameters."""
-    name, _, inside = text.partition("<") if not text.startswith("(") else (f"tuple{len(parts(text[1:-1]))}", "", f"{text[1:-1]}>")
-    return "+".join([name.strip(), *(with_parameters(it) for it in parts(inside.rpartition(">")[0]) if not it.startswith("'"))])
+    if text.startswith("("):
+        inside = type_tests.parts(text[1:-1])
+        name = f"tuple{len(inside)}"
+    else:
+        inside = type_tests.parts(text.partition("<")[2].rpartition(">")[0])
+        name = text.partition("<")[0]
+    return "+".join([name, *(with_parameters(it) for it in inside if not it.startswith("'"))])
 
 
 def opening(lines: list[str]) -> int:
