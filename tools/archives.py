@@ -31,7 +31,7 @@ INLINED = 1500
 # What says from which commit the archives of a folder were built.
 BUILT = "tls_codec.built"
 # The folders of a crate that its proof is read from.
-SOURCES = ("src", "specs", "proofs", "c")
+SOURCES = ("src", "specs", "proofs")
 
 
 def is_stale(libraries: Libraries, crate: str) -> bool:

@@ -11,8 +11,11 @@ A file below crates/ has a suffix that its folder has (SUFFIXES), or is an input
 The folders below crates/ are the crates of crates.txt, and the first block of docs/MAP.md names each and no others: names before two
 blanks, with commas between them, where a * is any part of a name.
 
+The first lines of tools/lib/__init__.py name each module and folder there, outside of parentheses, where a * is any part of a name; and no
+other name that has an underscore and no suffix.
+
 Before that it tries each of these on a text, a path or a list with one fault. Prints a line for each fault; last 'N passed, N failed': a
-file each, and one each for the paths below crates/, for the crates and for what was tried.
+file each, and one each for the paths below crates/, for the crates, for the modules and for what was tried.
 """
 from __future__ import annotations
 
@@ -99,6 +102,29 @@ def faults_of_crates(folders: set[str], listed: set[str], page: str) -> list[str
     return found + [f"docs/MAP.md: no crate: {name}" for name in names if not fnmatch.filter(listed, name)]
 
 
+def faults_of_modules(modules: set[str], text: str) -> list[str]:
+    """How these names of tools/lib, those of scripts of bash with a suffix, and this text of its __init__.py differ."""
+    words = set(re.findall(r"(?<![\w/])[\w*]+(?:\.\w+)?", re.sub(r"\([^()]*\)", "", text)))
+    unnamed = {it for it in modules if not any(fnmatch.fnmatchcase(it, word) for word in words)}
+    found = [f"tools/lib/__init__.py doesn't name {it}" for it in sorted(unnamed)]
+    names = sorted(word for word in words if "_" in word and "." not in word)
+    return found + [f"tools/lib/__init__.py: no module: {name}" for name in names if not fnmatch.filter(modules, name)]
+
+
+def missed_modules() -> list[str]:
+    """The planted faults of lists of modules that aren't found, and what is found in lists that have none."""
+    modules = {"one", "two_one", "two_two", "three.sh", "four"}
+    text = "One has one (of five, and six_one) and three.sh; two_* is of a_script.py; four/."
+    planted = {
+        "a module that isn't named": (modules | {"five"}, text),
+        "a script of bash that isn't named": (modules | {"four.sh"}, text),
+        "a module of no group": (modules | {"three_one"}, text),
+        "a name of no module": (modules, f"{text} two_three"),
+    }
+    missed = [f"selftest: not found: {fault}" for fault, lists in planted.items() if not faults_of_modules(*lists)]
+    return missed + [f"selftest: found: {it}" for it in faults_of_modules(modules, text)]
+
+
 def missed_crates() -> list[str]:
     """The planted faults of lists of crates that aren't found, and what is found in lists that have none."""
     crates = {"one", "two", "test_one"}
@@ -151,7 +177,7 @@ def selftest() -> list[str]:
 
 
 def main() -> int:
-    missed = [*selftest(), *missed_paths(), *missed_crates()]
+    missed = [*selftest(), *missed_paths(), *missed_crates(), *missed_modules()]
     print("".join(f"{it}\n" for it in missed), end="")
     all_files = files_of_clone()
     files = [path for path in all_files if path.parts[0] in FOLDERS and OUTPUTS not in path.parents]
@@ -164,11 +190,16 @@ def main() -> int:
     for fault in faults_of_crates(folders, set(Libraries().uses), (TOP / "docs/MAP.md").read_text(encoding="utf-8")):
         print(fault)
         failed.add("lists of crates")
+    inside = [path.relative_to("tools/lib").parts[0] for path in all_files if path.is_relative_to("tools/lib")]
+    modules = {name.removesuffix(".py") for name in inside} - {"__init__"}
+    for fault in faults_of_modules(modules, (TOP / "tools/lib/__init__.py").read_text(encoding="utf-8")):
+        print(fault)
+        failed.add("lists of modules")
     for path in files:
         for number, fault in faults(path, (TOP / path).read_text(encoding="utf-8", errors="replace")):
             print(f"{path}:{number}: {fault}")
             failed.add(path.as_posix())
-    print(f"{len(files) + 3 - len(failed)} passed, {len(failed)} failed")
+    print(f"{len(files) + 4 - len(failed)} passed, {len(failed)} failed")
     return 1 if failed or not files else 0
 
 

@@ -7,10 +7,13 @@
   no quote if it is `console`, or after a line <!-- not quoted --> or <!-- file: PATH -->.
 - A link that isn't of another site has to lead to a file of the repository, and to a heading of it.
 - A name in `code` that is a path under crates/, docs/, tools/ or .ci/, or has an underscore in it, has to occur in the repository;
-  names of what was before, in CHANGELOG.md, and a few of elsewhere don't.
+  names of what was before, in CHANGELOG.md, and a few of elsewhere don't. So has a path under a crate's short name (page_limits.SHORT), as
+  `wire/src/gather.rt`, or `wire/Digits` for wire/specs/Digits.antt, and a file's name alone.
 - A path in a block after <!-- not quoted --> has to be there, and src/lib.rt in the crate that the block names before it. A * is any name,
   NAME, CRATE, PROGRAM and .. are what a reader puts in; CHANGELOG.md and what a build makes don't count. In CONTRIBUTING.md a name in such
   a block that has an underscore in it has to occur under crates/, c/, python/, rust/, tools/ or .ci/.
+- In docs/API.md each function in a `rust` block after <!-- not quoted --> is one of the library, crates/tls_codec*, with that head: the
+  layout, lifetimes and a stroke before a parameter don't count. And each trait and struct there is one of the library.
 - No line is one that a merge left.
 - No word is one of the dialect (tools/dialect.py). The pages are short, and their reading lists closed (tools/page_limits.py).
 - The pictures are what tools/pictures.py draws, and the arrows between all crates those of crates.txt. No module of tools/lib imports a
@@ -46,6 +49,13 @@ READERS = re.compile(r"NAME|CRATE|PROGRAM|\.\.|/out\b")
 # A name in a list of CONTRIBUTING.md, and what a reader puts in.
 IN_LIST = re.compile(r"(?<![\w*])[A-Za-z]\w*_\w*[A-Za-z0-9](?![\w*])")
 OF_READER = {"NAME", "CRATE", "PROGRAM", "WHAT_IS_WRONG"}
+# A path under the short name of a crate; a file's name alone, and those of files of the kit.
+SHORT = re.compile(rf"({'|'.join(page_limits.SHORT)})/([\w/.-]*)")
+FILE = re.compile(r"\w[\w-]*\.(?:rt|antt|edit|py|sh|md|tls|notes|svg|tsv)")
+FILES_OF_KIT = {"START-HERE.md", "SHORTER_PROOFS.md"}
+# A function with its head, and the name of a trait or a struct.
+FUNCTION = re.compile(r"\bfn (\w+)(.*?)(?:;\s|\{|\n\s*(?:requires|ensures|where)\b)", re.S)
+DECLARED = re.compile(r"\bpub (?:trait|struct) (\w+)")
 HEAD = re.compile(r"(?:pub )?(?:final )?(?:const |unsafe )*fn ")
 CLAUSES = ("requires", "ensures")
 
@@ -147,13 +157,25 @@ def check_links(page: pathlib.Path, lines: list[str]) -> Iterator[Fault]:
                 yield number, f"no such heading: {link}"
 
 
-def check_names(lines: list[str], words: set[str]) -> Iterator[Fault]:
-    """The paths and names in `code` of a page that the repository doesn't have."""
+def in_full(name: str) -> str:
+    """A path under the short name of a crate, from the top on. A name alone is one of specs/."""
+    short, path = SHORT.fullmatch(name).groups()
+    return f"crates/{page_limits.SHORT[short]}/{path if not path or '/' in path else f'specs/{path}.antt'}"
+
+
+def check_names(lines: list[str], words: set[str], files: set[str]) -> Iterator[Fault]:
+    """The paths and names in `code` of a page that the repository doesn't have: these words, and these names of files."""
     for number, line in prose(lines):
         for name in CODE.findall(line):
             if re.fullmatch(r"(?:crates|docs|tools|\.ci)/[\w/.-]+", name):
                 if "/out/" not in name and not (TOP / name).exists():
                     yield number, f"no such file: {name}"
+            elif SHORT.fullmatch(name):
+                if not (TOP / in_full(name)).exists():
+                    yield number, f"no such file: {in_full(name)}"
+            elif FILE.fullmatch(name):
+                if name not in files | FILES_OF_KIT:
+                    yield number, f"no file has this name: {name}"
             elif re.fullmatch(r"[a-z]\w*_\w*[a-z0-9]", name) and name not in words | ELSEWHERE:
                 yield number, f"no such name: {name}"
 
@@ -163,10 +185,10 @@ def is_there(path: str) -> bool:
     return bool(READERS.search(path)) or any(TOP.glob(path.rstrip("./")))
 
 
-def not_quoted(lines: list[str]) -> Iterator[list[tuple[int, str]]]:
-    """The lines of each block that is no quote, by number."""
-    for words, _, quote in blocks(lines):
-        if [line.strip() for line in words if line.strip()][-1:] == ["<!-- not quoted -->"]:
+def not_quoted(lines: list[str], kinds: tuple[str, ...] = ()) -> Iterator[list[tuple[int, str]]]:
+    """The lines of each block that is no quote, of any kind or of these, by number."""
+    for words, kind, quote in blocks(lines):
+        if [line.strip() for line in words if line.strip()][-1:] == ["<!-- not quoted -->"] and (not kinds or kind in kinds):
             yield quote
 
 
@@ -176,6 +198,23 @@ def check_lists(lines: list[str], words: set[str]) -> Iterator[Fault]:
         for name in IN_LIST.findall(line):
             if name not in words and not OF_READER & {name, *name.split("_")}:
                 yield number, f"no such name in the tree: {name}"
+
+
+def heads_in(text: str) -> set[tuple[str, str]]:
+    """The functions of a text, with their heads, without comments, lifetimes and layout."""
+    found = set()
+    for name, head in FUNCTION.findall(re.sub(r"//.*", "", text) + "\n"):
+        head = "".join(re.sub(r"'\w+(?:: *'\w+)?,?|\b_(?=\w)", "", head).split()).replace("<>", "")
+        found.add((name, re.sub(r",(?=[)>])", "", head)))
+    return found
+
+
+def check_declared(lines: list[str], library: str) -> Iterator[Fault]:
+    """The functions, traits and structs in `rust` blocks that are no quotes which this text of the library doesn't have."""
+    heads, names = heads_in(library), set(DECLARED.findall(library))
+    for number, line in (it for block in not_quoted(lines, ("rust",)) for it in block):
+        yield from ((number, f"no such function: {name}{head}") for name, head in heads_in(line) - heads)
+        yield from ((number, f"no such type or trait: {name}") for name in DECLARED.findall(line) if name not in names)
 
 
 def check_blocks(lines: list[str]) -> Iterator[Fault]:
@@ -234,30 +273,48 @@ def selftest() -> list[str]:
     def in_block(*text: str) -> Iterator[Fault]:
         return check_blocks(block(*text))
 
+    def declared(line: str) -> Iterator[Fault]:
+        held = "fn held<\n    'a,\n    T,\n>(_alloc: Global, of: &'a T) -> Held<'a, T>\n{ }\npub struct Held<T>(T);"
+        return check_declared(["<!-- not quoted -->", "```rust", line, "```"], f"{head}\n    {other}\n{{\n}}\n{held}")
+
     planted = {
         "another line": quote(head, "requires odd { x }", other),
         "a dropped clause": quote(head, clause, "{"),
         "no file of a quote": check_quotes(["`src/other.rt`", "```rust", head, "```"], files),
         "a dead link": check_links(page, ["[one](docs/NOWHERE.md)"]),
         "no heading": check_links(page, ["[one](#nowhere)"]),
-        "no name": check_names(["`no_such_name`"], {"name"}),
-        "no path": check_names(["`tools/nowhere.py`"], set()),
+        "no name": check_names(["`no_such_name`"], {"name"}, set()),
+        "no path": check_names(["`tools/nowhere.py`"], set(), set()),
+        "no path under a short name": check_names(["`wire/src/nowhere.rt`"], set(), set()),
+        "no folder under a short name": check_names(["`base/src/nowhere/`"], set(), set()),
+        "no file of specs": check_names(["`grammar/Nowhere`"], set(), set()),
+        "no file of a name": check_names(["`nowhere.rt` in `base/src/`"], set(), {"lib.rt"}),
         "no path in a block": in_block("tools/nowhere.py"),
         "no such names in a block": in_block("tools/nowhere_*.py"),
         "no path of a crate in a block": in_block("crates/ct/src/, src/nowhere.rt"),
         "no name in a list": check_lists(block("one_name (no_such_name)"), {"one_name", "no_such"}),
         "no name of capitals in a list": check_lists(block("", "NO_NAMES in one_name.py"), {"one_name"}),
+        "no function": declared("fn split(x: u8) -> u8;"),
+        "a function with another head": declared("fn half(x: u16) -> u8;"),
+        "a function with another result": declared("fn half(x: u8) -> u16;"),
+        "a function without a parameter": declared("fn held<T>(of: &T) -> Held<'_, T>;"),
+        "a function without a reference": declared("fn held<T>(alloc: Global, of: T) -> Held<'_, T>;"),
+        "no trait": declared("pub trait Halves { fn half(x: u8) -> u8; }"),
+        "no struct": declared("pub struct Other<T>(pub T);"),
         "a line of a merge": check_merged(["<<<<<<< HEAD"]),
         "a word of the dialect": dialect.words_in("It stands there."),
         "a script in a module": scripts_imported({"one.py": "import re\n    import dialect\n"}),
         "a name of a script": scripts_imported({"one.py": "from dialect import words_in\n"}),
         **planted_arrows(),
     }
-    names = check_names(["`one_name` of `tools/check_pages.py`"], {"one_name"})
+    in_code = "`one_name` of `tools/check_pages.py`, `wire/src/lib.rt`, `wire/`, `base/src/lists/`, `grammar/Grammar`, `lib.rt`"
+    names = check_names([in_code], {"one_name"}, {"lib.rt"})
     sound = [*quote(head, clause, other, "{"), *check_links(page, ["[one](docs/MAP.md)"]), *names]
     sound += in_block("src/one.rt", "tools/check_*, tools/.., crates/NAME/src/one.rt", "crates/ct/: src/lib.rt, runs/NAME; c/out")
     sound += check_lists(block("one_name.py, NAME_c, tls_PROGRAM, check_*, .._of", "wrong/WHAT_IS_WRONG.edit"), {"one_name"})
     sound += [*check_merged(["==="]), *dialect.words_in("It is there."), *scripts_imported({"one.py": "from lib.blocks import prose\n"})]
+    sound += declared("fn held<T>(alloc: Global, of: &T) -> Held<'_, T>; // fn one()")
+    sound += declared("pub struct Held<T>(pub T); fn half(x: u8) -> u8;")
     missed = [f"selftest: not found: {fault}" for fault, found in planted.items() if not list(found)]
     return missed + [f"selftest: found: {it}" for it in sound]
 
@@ -265,6 +322,8 @@ def selftest() -> list[str]:
 def main() -> int:
     files = sources("crates", "c", "python", "rust")
     words, failed = words_of(files), set()
+    names = {path.name for path in files_of_clone()}
+    library = "\n".join("\n".join(text) for path, text in files.items() if re.match(r"crates/tls_codec\w*/src/", path))
     for text in selftest():
         print(text)
         failed.add("selftest")
@@ -273,9 +332,11 @@ def main() -> int:
         lines = page.read_text().split("\n")
         found = [*check_quotes(lines, files), *check_links(page, lines), *check_merged(lines)]
         if page.name != "CHANGELOG.md":
-            found += [*check_names(lines, words), *check_blocks(lines)]
+            found += [*check_names(lines, words, names), *check_blocks(lines)]
         if page.name == "CONTRIBUTING.md":
             found += check_lists(lines, words | words_of(sources("tools", ".ci")))
+        if page.name == "API.md":
+            found += check_declared(lines, library)
         found += ((number, f"{word!r}: {better}") for number, word, better in dialect.findings(page))
         for number, text in sorted(found):
             print(f"{page.relative_to(TOP)}:{number}: {text}")

@@ -4,8 +4,9 @@
 Fewer fail: no test goes unseen. More fail too, with the line to write, as do a crate without a line and a line without a crate. And a line
 `mod NAME;` names each file that has tests in the file above it, and that one too, up to lib.rt or main.rt.
 
-Before that it tries itself on crates with one fault each, and on counts tools/lib/counts.sh, with which .ci/run and quick compare what
-scripts count. Prints what isn't so; last 'N passed, N failed', a crate each, and one for what was tried.
+Before that it tries itself on crates with one fault each, on counts tools/lib/counts.sh, with which .ci/run and quick compare what scripts
+count, and on a clone whose files change tools/lib/state.sh, with which .ci/run notices that. Prints what isn't so; last 'N passed, N
+failed', a crate each, and one for what was tried.
 """
 from __future__ import annotations
 
@@ -122,8 +123,38 @@ def wrong_comparisons() -> list[str]:
     return [f"selftest: counts.sh doesn't say {it!r}" for it in wanted if it not in said]
 
 
+# Commands in a clone with changes. After one `changes` of state.sh says something else, or the same; `commit` always says the same.
+CHANGED = {
+    "a change of a changed file": "echo two >changed",
+    "a change of another file": "echo one >kept",
+    "another mode": "chmod +x kept",
+    "a change of a new file": "echo two >new",
+    "a new file more": "echo one >'other new'",
+    "another name": "mv new renamed",
+    "a file that is gone": "rm kept",
+}
+UNCHANGED = {"an ignored file": "echo two >ignored", "a file that is written again": "echo one >changed.1; mv changed.1 changed"}
+
+
+def unseen_changes() -> list[str]:
+    """What CHANGED and UNCHANGED have, and state.sh doesn't say."""
+    made = "git init -q; echo ignored >.gitignore; echo zero | tee changed >kept; git add ."
+    made += "; git -c user.name=one -c user.email=one commit -qm one; echo one | tee changed >new"
+    found = []
+    for name, command in {**CHANGED, **UNCHANGED}.items():
+        with tempfile.TemporaryDirectory() as room:
+            compared = f"{made}; commit; changes; {command}; commit; changes"
+            words = ["bash", "-c", f'. "$1"\n{compared}', "bash", TOP / "tools/lib/state.sh"]
+            said = subprocess.run(words, cwd=room, capture_output=True, text=True, check=False).stdout.splitlines()
+        one, before, other, after = said if len(said) == 4 else [""] * 4
+        if not re.fullmatch(r"commit [0-9a-f]{40}, with changes", one) or one != other or (before == after) == (name in CHANGED):
+            found.append(f"selftest: state.sh, after {name}: {said}")
+    return found
+
+
 def main() -> int:
-    results = {"selftest": selftest() + wrong_comparisons()} | findings(files_of_crates(), LINES.read_text(encoding="utf-8"))
+    tried = selftest() + wrong_comparisons() + unseen_changes()
+    results = {"selftest": tried} | findings(files_of_crates(), LINES.read_text(encoding="utf-8"))
     print("".join(f"{line}\n" for lines in results.values() for line in lines), end="")
     failed = sum(map(bool, results.values()))
     print(f"{len(results) - failed} passed, {failed} failed")

@@ -1,12 +1,13 @@
 #!/usr/bin/env python3
 """Compares the public types of tls_codec with its table of types.
 
-Each struct that `crates/tls_codec/src/lib.rt` exports, and that has an `impl Size`, has a line of `Means` in `types.rt`. Each
-that has a decoder has a line of names for it, and each that has `PartialEq` a line in `equality.rt`. A family such as `TlsVecU8`
-is under the generic type that it names. Types that a context decides are in `contexts.rt`, and are held to the traits in a context
-too: such a type has no format but one for each context, so its line is one of `SameFormat` and not of `Means`. Each that has a decoder
-from a slice, and each of `tls_codec_cases`, is validated by an impl in `tls_codec_validate`, without a context or in one. Each impl there
-has a line in its `types.rt`, which says where bytes are rejected, or of `Keyed` what its key is (PINS).
+Each `impl Size` of `tls_codec_base` and the families' crates, for a type of std as for one of theirs, has a line of `Means` in `types.rt`
+of `tls_codec`. Each decoder has a line of names (MEANT), and each type with a decoder and `PartialEq` a line in `equality.rt`. A family
+such as `TlsVecU8` is under the generic type that it names; an exported name that isn't of a width, as `VLBytes`, has lines of its own.
+Types that a context decides are in `contexts.rt`, and are held to the traits in a context too: such a type has no format but one for each
+context, so its line is one of `SameFormat` and not of `Means`. Each that has a decoder from a slice, and each of `tls_codec_cases`, is
+validated by an impl in `tls_codec_validate`, without a context or in one. Each impl there has a line in its `types.rt`, which says where
+bytes are rejected, or of `Keyed` what its key is (PINS). No line says of a type what it is by that type's own impl, and none has a premise.
 Each has a row in docs/API.md, with its crate and its traits, and so have the types of std that `tls_codec_base` gives them to;
 each name there is such a type's. What it stands for and its format there are in words of its lines of `Means`, or in short ones
 (SHORT_FOR). Each variant of `Error` is among the words for contracts, and each line that exports names can be read. No type that generated
@@ -18,6 +19,7 @@ a type that lacks something. Prints what is missing; the last line is 'N passed,
 from __future__ import annotations
 
 import collections
+import functools
 import re
 import sys
 from collections.abc import Iterable, Iterator
@@ -33,20 +35,51 @@ NAME = re.compile(r"[A-Z]\w*")
 # an impl of a trait for a type, with or without parameters: a name, a tuple, an array or a slice
 TYPE = r"&?(?:'a )?(\w+)|(\([^)]*\)|&?\[[^\]]*\])"
 IMPL = re.compile(rf"^impl(?:<[^{{]*?>)? (\w+)(?:<[A-Z]>)?\s+for (?:{TYPE})", re.M)
+# the same with the whole type, and a type that its crate alone can name
+IMPL_OF = re.compile(r"^impl\b[^{]*?\b(\w+)(?:<\w+>)?\s+for\s+([^{]+?)(?:\s+where\b[^{]*)?\s*\{", re.M)
+HIDDEN = re.compile(r"^pub\(crate\) struct (\w+)", re.M)
 DERIVE = re.compile(r"#\[derive\(([^)]*)\)\]\n(?:#\[[^\n]*\]\n)*pub struct (\w+)")
-ALIAS = re.compile(r"^pub type (\w+)", re.M)
+ALIAS = re.compile(r"^pub type (\w+)(?:<[^=]*>)? = (\w+)", re.M)
 STRUCT = re.compile(r"^pub (?:struct|enum) (\w+)", re.M)
 
 # what reads a type from a slice, and what validates its bytes
 VALIDATED = {"DeserializeBytes": "Validate", "DeserializeBytesFor": "ValidateFor", "SplitCases": "ValidateCases"}
-# What pins the `ghost` definition of an impl of these traits in `tls_codec_validate`, in a clause of its types.rt: the word and the member.
-PINS = {
+# What pins the `ghost` definition of an impl of a trait, in a clause of a table: the word, and the member unless it is all of them.
+Pins = dict[str, tuple[str, str]]
+# In types.rt of `tls_codec_validate`.
+PINS: Pins = {
     "Validate": ("SamePlaces", "places"),
     "ValidateFor": ("SamePlacesFor", "places"),
     "ValidateCases": ("SameVariantPlaces", "places"),
     "Keyed": ("SameKeys", "is_key"),
 }
-PIN = re.compile(r"^ *ensures(?: \w+)? \{ (\w+) ⟦<(.*?) as (\w+)(?:<\w+>)?>⟧\.(\w+)\s", re.M)
+# In types.rt and contexts.rt of `tls_codec`.
+MEANT: Pins = {
+    "Size": ("Means", ""),
+    "Deserialize": ("SameSourceNames", "names"),
+    "DeserializeBytes": ("SameNames", "names"),
+    "SizeFor": ("SameFormat", "format_for"),
+    "DeserializeFor": ("SameSourceNames", "names"),
+    "DeserializeBytesFor": ("SameNames", "names"),
+    "LengthField": ("SameField", "field"),
+}
+# A line: its word, the type, the trait, the member, and what it is said to be. And one of equality.rt, of a type's parts before it.
+PIN = re.compile(
+    r"^ *ensures(?: \w+)? \{ (?:\(c : Tree\)\s+→ )?(\w+) \(?⟦<(.*?) as (\w+)(?:<\w+>)?>⟧(?:\.(\w+))?(?: c\))?\s(.*?) \}$",
+    re.M | re.S,
+)
+OF_IMPL = re.compile(r"⟦<(.*?) as \w+(?:<\w+>)?>⟧")
+EQUAL = re.compile(
+    r"^ *ensures(?: \w+)? \{ (?:EqualWhereAlike (\w)\.plain \1\.eq\s+→ )*"
+    r"EqualWhereAlike ⟦<(.*?) as Size>⟧\.plain\s+⟦<\2 as PartialEq>⟧\.eq \}$",
+    re.M,
+)
+# The types of std without a line in equality.rt, and why.
+NOT_EQUAL = {
+    "()": "it has one value",
+    "PhantomData": "it has one value",
+    "Box": "no line yet: std compares what boxes hold",
+}
 
 
 def exported() -> Iterator[tuple[str, str]]:
@@ -76,21 +109,40 @@ def traits_of(crate: str) -> dict[str, set[str]]:
     return found
 
 
+def said_in(table: str, pins: Pins) -> list[tuple[str, str]]:
+    """The types and traits that lines of these tables are of, without lines that say of a type what it is by its own impl."""
+    found = []
+    for word, of, trait, member, said in PIN.findall(table):
+        name = type_tests.shape(of)
+        if pins.get(trait) == (word, member) and name not in map(type_tests.shape, OF_IMPL.findall(said)):
+            found.append((name, trait))
+    return found
+
+
+def equal(table: str) -> list[str]:
+    """The types that lines of this text of equality.rt are of."""
+    return [type_tests.shape(of) for _, of in EQUAL.findall(table)]
+
+
+def table_of(trait: str) -> str:
+    """The table of tls_codec that has the lines of a trait."""
+    return "contexts.rt" if trait.endswith("For") else "types.rt"
+
+
+def lone_aliases(crate: str) -> dict[str, str]:
+    """The types of a crate's other names, by these, except the names that are of a width."""
+    sources = type_tests.texts((CRATES / crate / "src").rglob("*.rt"))[0]
+    return {name: of for name, of in ALIAS.findall(sources) if unnumbered(name) == name}
+
+
 def missing(name: str, traits: set[str], types: str, equality: str) -> Iterator[str]:
     """What the tables lack of a type with these traits."""
-    at = r"⟦<" + name + r"\b[^⟦]*? as {}(?:<C>)?>⟧"
-    for trait, page, where in (
-        ("Size", types, "types.rt"),
-        ("Deserialize", types, "types.rt"),
-        ("DeserializeBytes", types, "types.rt"),
-        ("SizeFor", types, "contexts.rt"),
-        ("DeserializeFor", types, "contexts.rt"),
-        ("DeserializeBytesFor", types, "contexts.rt"),
-        ("PartialEq", equality, "equality.rt"),
-    ):
-        reads = trait != "PartialEq" or "Deserialize" in traits
-        if trait in traits and reads and not re.search(at.format(trait), page):
-            yield f"{where}: no line for {name} as {trait}"
+    said = said_in(types, MEANT)
+    for trait in MEANT:
+        if trait in traits and (name, trait) not in said:
+            yield f"{table_of(trait)}: no line for {name} as {trait}"
+    if {"Deserialize", "PartialEq"} <= traits and name not in equal(equality):
+        yield f"equality.rt: no line for {name} as PartialEq"
 
 
 def not_validated(name: str, traits: set[str], validated: dict[str, set[str]]) -> Iterator[str]:
@@ -100,17 +152,32 @@ def not_validated(name: str, traits: set[str], validated: dict[str, set[str]]) -
             yield f"tls_codec_validate: no {tells} for {name}"
 
 
-def pinned(sources: str, types: str) -> dict[tuple[str, str], bool]:
-    """Whether each impl of PINS in these sources has a line in this text of types.rt, by its type and trait: several have as many."""
-    impls = collections.Counter((type_tests.shape(name or signs), trait) for trait, name, signs in IMPL.findall(sources) if trait in PINS)
-    said = [(type_tests.shape(of), trait) for word, of, trait, member in PIN.findall(types) if PINS.get(trait) == (word, member)]
-    return {impl: said.count(impl) >= count for impl, count in impls.items()}
+@functools.cache
+def impls_in(sources: str) -> list[tuple[str, str]]:
+    """The types and traits of the impls in these sources."""
+    return [(type_tests.shape(of), trait) for trait, of in IMPL_OF.findall(sources)]
 
 
-def not_pinned(sources: str, types: str) -> Iterator[list[str]]:
-    """What each impl of PINS lacks."""
-    for (name, trait), is_pinned in pinned(sources, types).items():
-        yield [] if is_pinned else [f"types.rt of tls_codec_validate: no line of {PINS[trait][0]} for {name} as {trait}"]
+def pinned(sources: str, table: str, pins: Pins) -> dict[tuple[str, str], bool]:
+    """Whether each impl of these traits in these sources has a line in this table, by its type and trait: several have as many."""
+    hidden, said = HIDDEN.findall(sources), collections.Counter(said_in(table, pins))
+    impls = collections.Counter(impl for impl in impls_in(sources) if impl[1] in pins)
+    return {impl: said[impl] >= count for impl, count in impls.items() if impl[0] not in hidden}
+
+
+def not_pinned(sources: str, table: str, pins: Pins) -> Iterator[list[str]]:
+    """What each impl of these traits lacks."""
+    for (name, trait), is_pinned in pinned(sources, table, pins).items():
+        where = "types.rt of tls_codec_validate" if trait in PINS else table_of(trait)
+        yield [] if is_pinned else [f"{where}: no line of {pins[trait][0]} for {name} as {trait}"]
+
+
+def not_equal(sources: str, equality: str) -> Iterator[str]:
+    """The types of std with a decoder in these sources that have no line in this text of equality.rt, though NOT_EQUAL lacks them."""
+    own, said = STRUCT.findall(sources), equal(equality)
+    for name in sorted({name for name, trait in impls_in(sources) if trait == "Deserialize"} - {*own}):
+        if (name in said) == (name in NOT_EQUAL):
+            yield f"equality.rt: {name} has {'a line, and is an exception' if name in said else 'no line'}"
 
 
 # the letters of docs/API.md; D is both decoders
@@ -155,7 +222,7 @@ def rows() -> list[Row]:
 def meanings(types: str) -> dict[str, set[str]]:
     """The words of the lines of `Means` in these tables, by the types without their widths."""
     found: dict[str, set[str]] = {}
-    for of, said in re.findall(r"\bMeans ⟦<(.*?) as Size>⟧(.*?) \}\n", types, re.S):
+    for of, said in ((of, said) for _, of, trait, _, said in PIN.findall(types) if trait == "Size"):
         name = re.match(TYPE, of.replace("'a ", ""))
         found.setdefault(unnumbered(name[1] or name[2]), set()).update(WORD.findall(said))
     return found
@@ -183,7 +250,7 @@ def short(crate: str) -> str:
 def with_format(by_crate: dict[str, dict[str, set[str]]]) -> Iterator[tuple[str, str]]:
     """The types that a row of docs/API.md can be of, by their crates: those with a format, and other names of types."""
     for crate, types in by_crate.items():
-        others = ALIAS.findall("".join(path.read_text() for path in sorted((CRATES / crate / "src").rglob("*.rt"))))
+        others = [name for name, _ in ALIAS.findall("".join(path.read_text() for path in sorted((CRATES / crate / "src").rglob("*.rt"))))]
         for name in [*(name for name, traits in types.items() if "Size" in traits), *others]:
             yield short(crate), unnumbered(name)
 
@@ -224,46 +291,85 @@ def not_reserved(words: str) -> Iterator[str]:
 def selftest(types: str, equality: str, page: list[Row]) -> Iterator[str]:
     """The planted faults that no check finds, each in a type that has none otherwise."""
     name, traits = "TlsVarInt", {"Size", "Serialize", "SerializeBytes", "Deserialize", "DeserializeBytes", "PartialEq"}
+    source, alike = f"ensures source {{ SameSourceNames ⟦<{name} as Deserialize>⟧", f"ensures integer {{ EqualWhereAlike ⟦<{name} as"
+    comment = f"// ensures {{ Means ⟦<{name} as Size>⟧ trees varint_format }}\n"
     planted = {
         "no line of a type": missing(name, traits, types.replace(f"⟦<{name} as Size>⟧", ""), equality),
         "no line of a decoder": missing(name, traits, types.replace(f"⟦<{name} as DeserializeBytes>⟧", ""), equality),
         "no line of an equality": missing(name, traits, types, equality.replace(f"⟦<{name} as PartialEq", "")),
+        "a line that is a comment": missing(name, traits, types.replace(source, f"// {source}"), equality),
+        "an equality that is a comment": missing(name, traits, types, equality.replace(alike, f"// {alike}")),
         "no validator": not_validated(name, traits, {name: {"ValidateFor"}}),
         "no row": not_in_page("tls_codec_wire", name, traits, [row for row in page if name not in row.names]),
         "a wrong letter": not_in_page("tls_codec_wire", name, traits - {"SerializeBytes"}, page),
         "a row of no type": without_type(Row({name}, "base", {"S"}), {("vec", name)}),
         "a row without a name": without_type(Row(set(), "base", {"S"}), {("base", name)}),
         "another meaning": unlike(Row({name}, "base", {"S"}, "`trees x`"), meanings(types)),
+        "a meaning in a comment": unlike(Row({name}, "base", {"S"}, "`trees x`"), meanings(types + comment)),
         "another format": unlike(Row({name}, "base", {"S"}, "", "`number_format k`, k bytes"), meanings(types)),
         "an error": errors_lacking("EndOfStream"),
         "a name that generated code imports": not_reserved('"Choice" "Size"'),
         "a line of exports": exports_unread("pub use tls_codec_base::*;\n"),
+        "a premise": premises(types.replace("pub fn numbers<'a>()\n", "pub fn numbers<'a>()\n    requires { 0 ≡ 1 }\n")),
     }
     yield from (f"selftest: not found: {fault}" for fault, found in planted.items() if not list(found))
     sound = [missing(name, traits, types, equality), not_in_page("tls_codec_wire", name, traits, page)]
     yield from (f"selftest: found: {it}" for found in sound for it in found)
 
 
-def pins_unseen(sources: str, types: str) -> Iterator[str]:
-    """The planted faults in these texts of `tls_codec_validate` that aren't found: each line that is gone, other lines, and an impl."""
-    line = "    ensures u16 { SamePlaces ⟦<u16 as Validate>⟧.places"
-    planted = {f"no line{found[0]}": (sources, types.replace(found[0], "")) for found in PIN.finditer(types)}
-    planted |= {
-        "a line that is a comment": (sources, types.replace(line, f"// {line}")),
-        "a line of another trait": (sources, types.replace(line, line.replace("Validate", "Keyed"))),
-        "a line of another word": (sources, types.replace(line, line.replace("SamePlaces", "SameKeys"))),
-        "an impl without a line": (f"{sources}impl<T> Validate for Held<T> {{\n", types),
-        "an impl of a type that has one": (f"{sources}impl Validate for Vec<U24> {{\n", types),
+def pins_unseen(sources: str, table: str, pins: Pins, line: str) -> Iterator[str]:
+    """The planted faults in these texts that aren't found: each line of an impl that is gone, others in place of a line, and an impl."""
+    (word, of, trait, member, said), had = PIN.search(line).groups(), pinned(sources, table, pins)
+    other = next(it for it in pins if it != trait)
+    of_impls = [it for it in PIN.finditer(table) if (type_tests.shape(it[2]), it[3]) in had]
+    planted = {f"no line{found[0]}": (sources, table.replace(found[0], "")) for found in of_impls}
+    in_place = {
+        "a line that is a comment": f"// {line}",
+        "a line of another trait": line.replace(f" as {trait}>", f" as {other}>"),
+        "a line of another word": line.replace(word, next(it for it, _ in pins.values() if it != word)),
+        "a line of another member": line.replace(f"⟧.{member}" if member else "⟧", "⟧.other"),
+        "a line that a type is itself": line.replace(said, f"⟦<{of} as {trait}>⟧.{member}"),
     }
-    yield from (f"selftest: not found: {fault}" for fault, texts in planted.items() if not any(not_pinned(*texts)))
+    planted |= {fault: (sources, table.replace(line, it)) for fault, it in in_place.items()}
+    planted |= {
+        "an impl without a line": (f"{sources}impl<T> {trait} for Held<T> {{\n", table),
+        "an impl of a type that has one": (f"{sources}impl {trait} for {of} {{\n", table),
+        "an impl for a reference": (f"{sources}impl<'a> {trait} for &'a Held {{\n", table),
+    }
+    yield from (f"selftest: not found: {fault}" for fault, texts in planted.items() if not any(not_pinned(*texts, pins)))
 
 
-def pins() -> Iterator[bool]:
-    """Whether planted faults are found, and whether each impl of `tls_codec_validate` has its line in types.rt."""
-    files = sorted((CRATES / "tls_codec_validate/src").rglob("*.rt"))
-    sources, types = type_tests.texts(files, [CRATES / "tls_codec_validate/src/types.rt"])
-    yield report(pins_unseen(sources, types))
-    yield from map(report, not_pinned(sources, types))
+def premises(*tables: str) -> Iterator[str]:
+    """The premises of these tables, without which a line need not hold."""
+    yield from (f"a table has a premise: {line.strip()}" for table in tables for line in re.findall(r"^ *requires\b.*", table, re.M))
+
+
+def equals_unseen(sources: str, equality: str) -> Iterator[str]:
+    """The planted faults in this text of equality.rt that aren't found: each line of a type of std that is gone, and others."""
+    line = "    ensures u16 { EqualWhereAlike ⟦<u16 as Size>⟧.plain ⟦<u16 as PartialEq>⟧.eq }"
+    own = {*STRUCT.findall(sources), *(name for name, _ in ALIAS.findall(sources))}
+    planted = {f"no line{it[0]}": equality.replace(it[0], "") for it in EQUAL.finditer(equality) if type_tests.shape(it[2]) not in own}
+    planted |= {
+        "a line that is a comment": equality.replace(line, f"// {line}"),
+        "a line of two types": equality.replace(line, line.replace("u16 as Size", "u8 as Size")),
+        "an exception that has a line": f"{equality}{line.replace('u16 as', '() as')}\n",
+    }
+    yield from (f"selftest: not found: {fault}" for fault, table in planted.items() if not any(not_equal(sources, table)))
+
+
+def pins(crates: set[str]) -> Iterator[bool]:
+    """Whether planted faults are found, and whether each impl of the types in these crates and of their validators has its line."""
+    folders = [CRATES / crate / "src" for crate in sorted(crates | {"tls_codec_grammar"})]
+    tables = [CRATES / "tls_codec_validate/src/types.rt"], [TABLE / "types.rt", TABLE / "contexts.rt"], [TABLE / "equality.rt"]
+    validators = (CRATES / "tls_codec_validate/src").rglob("*.rt")
+    sources, places, types, equality = type_tests.texts((path for folder in folders for path in folder.rglob("*.rt")), *tables)
+    of_validators = type_tests.texts(validators)[0], places, PINS
+    yield report(pins_unseen(*of_validators, "    ensures u16 { SamePlaces ⟦<u16 as Validate>⟧.places (here (too_few 2)) }"))
+    yield report(pins_unseen(sources, types, MEANT, "    ensures u16 { Means ⟦<u16 as Size>⟧ Number (number_format 2) }"))
+    line = "    ensures u16_source { SameSourceNames ⟦<u16 as Deserialize>⟧.names (ReadRefused 2) }"
+    yield report([*pins_unseen(sources, types, MEANT, line), *equals_unseen(sources, equality)])
+    yield report(premises(places, types, equality))
+    yield from map(report, [*not_pinned(*of_validators), *not_pinned(sources, types, MEANT), not_equal(sources, equality)])
 
 
 def report(lacks: Iterable[str]) -> bool:
@@ -292,9 +398,12 @@ def main() -> int:
     page, decided = rows(), PAGE.read_text().split("\n## In a context\n")[1].split("\n## ")[0]
     types_of, means = set(with_format(by_crate)), meanings(types)
     words = (CRATES / "tlsgen_model/src/words.rt").read_text()
-    results = [report(selftest(types, equality, page)), report(not_reserved(words)), *tested(set(by_crate)), *pins()]
+    results = [report(selftest(types, equality, page)), report(not_reserved(words)), *tested(set(by_crate)), *pins(set(by_crate))]
     results += [report([*without_type(row, types_of), *unlike(row, means)]) for row in page]
     for crate, name in names:
+        of = lone_aliases(crate).get(name)
+        if of:
+            results.append(report(missing(name, by_crate[crate][of], types, equality)))
         # (an impl for a type of wire is in base)
         traits = by_crate[crate].get(name, set()) | by_crate["tls_codec_base"].get(name, set())
         if traits & {"Size", "SizeFor"}:

@@ -3,7 +3,8 @@
 these and `tlsview` are made of.
 
 An edit of wrong/ names its function; one of must-fail/ turns that which has its `old:` text. A method in an `impl Trait for Type` has the
-contract of the trait, and the path that rattle gives it: `tagged::TaggedSerialize::tls_serialize`.
+contract of the trait, and the path that rattle gives it: `tagged::TaggedSerialize::tls_serialize`. So has a type's own method, which is
+for all parameters, `list::TlsVec::len`, or for some: `payloads::Encoded+Option+T::payload`.
 
 A function needs no wrong body if its body is empty, as a law's is, or one call of something with a contract. That is `call`, `let x =
 call?; Ok(x)` or `let x = call?; Ok(Type(x))`, and nothing else. What the call is of and its arguments are names, paths, fields and
@@ -11,18 +12,20 @@ literals, and these borrowed or dereferenced. So a constant, a field, `Some(x)`,
 
 data/without_wrong_bodies.txt has the exceptions, with reasons. A reason `like PATH` names a sibling: a function of the same crate that has
 an edit, and the same body except for names of types. Prints each function that lacks one, each exception that is none, each sibling that is
-none, and how many functions are of each class; last 'N passed, N failed', a function each. Before that it tries itself on planted functions
-of each class, on planted siblings, and on a crate without one of its edits, which counts as one.
+none, each edit that can't be applied, and how many functions are of each class; last 'N passed, N failed', a function each. Before that it
+tries itself on planted functions of each class, on planted siblings and edits, and on a crate without one of its edits: one more.
 """
 from __future__ import annotations
 
 import collections
 import dataclasses
+import pathlib
 import re
 import sys
+import tempfile
 from collections.abc import Iterator
 
-from lib import edits
+from lib import edits, type_tests
 from lib.libraries import CRATES, TOP, Libraries
 
 FUNCTION = re.compile(r'( *)(pub )?(?:final |const |unsafe |extern "C" )*fn (?:r#)?(\w+)')
@@ -89,7 +92,7 @@ class Function:
         return "".join(OF_TYPE.sub("Type", self.body).split())
 
 
-# The functions of some crates by their paths with the crate, and the class of each. Several have a path that is of impls of one type.
+# The functions of some crates by their paths with the crate, and the class of each. Where several have one path, that is a fault.
 Functions = dict[str, list[tuple[Function, str]]]
 
 
@@ -154,20 +157,36 @@ def name_of(text: str) -> str:
 def owner(lines: list[str]) -> str:
     """The type or trait that the last of these lines is in, with `::` at its end.
 
-    It is `TaggedSerialize::` for `impl .. Serialize for Tagged<..>`."""
+    It is `TaggedSerialize::` for `impl .. Serialize for Tagged<..>`, and `Encoded+Option+T::` for `impl .. Encoded<'a, Option<T>>`."""
     head = head_of(lines)
     trait, _, of = head.rpartition(" for ")
     if not trait:
-        return re.search(r"\w+", of)[0] + "::"
+        is_of_all = BARE.fullmatch(of) or not lines[opening(lines)].startswith("impl")
+        return (re.search(r"\w+", of)[0] if is_of_all else with_parameters(of)) + "::"
     word, _, inside = trait.partition("<")
     parameter = name_of(inside.rpartition(">")[0])
     return name_of(of) + word.split("::")[-1].strip() + parameter + "::"
 
 
+def with_parameters(text: str) -> str:
+    """A type in the path of its own method, as rattle writes it where the impl isn't for all parameters."""
+    if text.startswith("("):
+        inside = type_tests.parts(text[1:-1])
+        name = f"tuple{len(inside)}"
+    else:
+        inside = type_tests.parts(text.partition("<")[2].rpartition(">")[0])
+        name = text.partition("<")[0]
+    return "+".join([name, *(with_parameters(it) for it in inside if not it.startswith("'"))])
+
+
+def opening(lines: list[str]) -> int:
+    """The last of these lines that begins an impl or a trait, or how many they are."""
+    return max((n for n, line in enumerate(lines) if re.match(r"impl\b|(?:pub )?trait\b", line)), default=len(lines))
+
+
 def head_of(lines: list[str]) -> str:
     """What comes after `impl` or `trait` in the last such line, without its parameters."""
-    start = max((n for n, line in enumerate(lines) if re.match(r"impl\b|(?:pub )?trait\b", line)), default=len(lines))
-    head = " ".join(line.strip() for line in lines[start:]).replace("->", "").partition("{")[0].partition(" where ")[0]
+    head = " ".join(line.strip() for line in lines[opening(lines) :]).replace("->", "").partition("{")[0].partition(" where ")[0]
     return without_parameters(re.sub(r"^(?:impl|(?:pub )?trait)\s*", "", head)).strip()
 
 
@@ -179,10 +198,10 @@ def named(file: str, lines: list[str], name: str, homes: dict[str, str]) -> str:
     return homes.get(bare[1] if bare else "", module_of(file)) + owner(lines) + name
 
 
-def homes_of(crate: str) -> dict[str, str]:
-    """The types of a crate, with their modules."""
-    paths = sorted((CRATES / crate / "src").rglob("*.rt"))
-    return {name: module_of(it.relative_to(CRATES / crate).as_posix()) for it in paths for name in TYPE.findall(it.read_text())}
+def homes_of(folder: pathlib.Path) -> dict[str, str]:
+    """The types of the crate in a folder, with their modules."""
+    paths = sorted((folder / "src").rglob("*.rt"))
+    return {name: module_of(it.relative_to(folder).as_posix()) for it in paths for name in TYPE.findall(it.read_text())}
 
 
 def is_of_trait(lines: list[str]) -> bool:
@@ -216,33 +235,52 @@ def functions_of(file: str, lines: list[str], homes: dict[str, str]) -> Iterator
 
 def functions(crate: str) -> Iterator[Function]:
     """The public functions of a crate, and the methods of its traits and impls."""
-    homes = homes_of(crate)
+    homes = homes_of(CRATES / crate)
     for path in sorted((CRATES / crate / "src").rglob("*.rt")):
         yield from functions_of(path.relative_to(CRATES / crate).as_posix(), path.read_text().split("\n"), homes)
 
 
-def turned(crate: str) -> set[str]:
-    """The functions of a crate that edits turn, by their paths, of types without their parameters."""
-    folder, homes, found = CRATES / crate, homes_of(crate), set()
-    for path in folder.glob("wrong/*.edit"):
-        found.add("::".join(part.split("+")[0] for part in edits.read(path, folder).function.split("::")))
-    for path in folder.glob("must-fail/*.edit"):
-        for file, old in re.findall(r"^file: (src/.*)\nold: (.*)$", path.read_text(), re.M):
-            lines = (folder / file).read_text().partition(old)[0].split("\n")
-            at = max((n for n, line in enumerate(lines) if edits.FUNCTION.search(line) and "//" not in line), default=None)
-            if at is not None:
-                found.add(named(file, lines[: at + 1], edits.FUNCTION.findall(lines[at])[-1], homes))
-    return found
+def turned_in(folder: pathlib.Path, path: pathlib.Path, homes: dict[str, str]) -> Iterator[str]:
+    """The functions of the crate in a folder that an edit turns, by their paths. It is refused if it can't be applied."""
+    if path.parent.name == "wrong":
+        yield edits.read(path, folder).function
+        return
+    for file, old in re.findall(r"^file: (src/.*)\nold: (.*)$", path.read_text(encoding="utf-8"), re.M):
+        before, is_there, _ = (folder / file).read_text(encoding="utf-8").partition(old)
+        if not is_there:
+            raise edits.BadEdit(f"an 'old:' text is not in {file}: {old}")
+        lines = before.split("\n")
+        at = max((n for n, line in enumerate(lines) if edits.FUNCTION.search(line) and "//" not in line), default=None)
+        if at is not None:
+            yield named(file, lines[: at + 1], edits.FUNCTION.findall(lines[at])[-1], homes)
 
 
-def checked_functions() -> Functions:
-    """The functions of the crates that are checked."""
+def turned(folder: pathlib.Path) -> tuple[set[str], list[str]]:
+    """The functions of the crate in a folder that edits turn, by their paths, and a line for each edit that can't be applied."""
+    homes, found, bad = homes_of(folder), set(), []
+    for path in sorted([*folder.glob("wrong/*.edit"), *folder.glob("must-fail/*.edit")]):
+        try:
+            found.update(turned_in(folder, path, homes))
+        except (edits.BadEdit, OSError, UnicodeDecodeError) as error:
+            bad.append(f"{folder.name}/{path.relative_to(folder)}: {error}")
+    return found, bad
+
+
+def checked_functions() -> tuple[Functions, list[str]]:
+    """The functions of the crates that are checked, and a line for each edit there that can't be applied."""
     found: Functions = {}
+    bad = []
     for crate in held():
-        has_one = turned(crate)
+        has_one, unread = turned(CRATES / crate)
+        bad += unread
         for function in functions(crate):
             found.setdefault(f"{crate}::{function.path}", []).append((function, function.class_in(has_one)))
-    return found
+    return found, bad
+
+
+def alike(found: Functions) -> list[str]:
+    """The paths that several functions have, so that an edit of one would be taken for one of all."""
+    return [f"{name}: {len(several)} functions have this path" for name, several in found.items() if len(several) > 1]
 
 
 def planted(body: str, clause: str = "") -> Function:
@@ -260,6 +298,38 @@ def unlike_siblings() -> list[str]:
     return missed + [it for reason in ("like two", "it has no other value") for it in no_siblings({"held::one": reason}, found)]
 
 
+def unread_edits() -> list[str]:
+    """The planted edits that can't be applied and aren't found, and what is found of others, in a crate with one function."""
+    right = "file: src/lib.rt\nold: 4\nnew: 5\n"
+    planted = {
+        "wrong/another_text.edit": f"fn: read\n{right.replace('old: 4', 'old: 6')}",
+        "wrong/another_file.edit": f"fn: read\n{right.replace('lib', 'one')}",
+        "wrong/no_function.edit": right,
+        "must-fail/another_text.edit": right.replace("old: 4", "old: 6"),
+        "must-fail/another_file.edit": right.replace("lib", "one"),
+    }
+    files = {"src/lib.rt": "pub fn read() -> u8 {\n    4\n}\n", "wrong/right.edit": f"fn: read\n{right}", "must-fail/right.edit": right}
+    with tempfile.TemporaryDirectory() as room:
+        for name, text in {**files, **planted}.items():
+            path = pathlib.Path(room, "held", name)
+            path.parent.mkdir(parents=True, exist_ok=True)
+            path.write_text(text, encoding="utf-8")
+        has_one, bad = turned(pathlib.Path(room, "held"))
+    named_bad = sorted(line.partition(": ")[0] for line in bad)
+    return [] if (has_one, named_bad) == ({"read"}, sorted(f"held/{it}" for it in planted)) else [f"selftest: edits: {has_one} {bad}"]
+
+
+def missed_parameters() -> list[str]:
+    """The functions of impls of one type with other parameters that an edit of the first would be taken for one of, and other paths."""
+    heads = ["<'a, T> Held<'a, T>", "<'a, T> Held<'a, Vec<T>>", "<X, T, U> Held<X, (T, Box<U>)>", "<T> Deserialize for Held<Vec<T>>"]
+    wanted = ["of::Held::read", "of::Held+Vec+T::read", "of::Held+X+tuple2+T+Box+U::read", "of::HeldVecDeserialize::read"]
+    impls = "\n\n".join(f"impl{head} {{\n    pub fn read(&self) -> u8 {{\n        4\n    }}\n}}" for head in heads)
+    found = list(functions_of("src/of.rt", impls.split("\n"), {}))
+    shared: Functions = {"of::Held::read": [(it, it.class_in(set())) for it in found]}
+    missed = [] if [it.path for it in found] == wanted else [f"selftest: paths: {[it.path for it in found]}"]
+    return missed + ([] if alike(shared) else ["selftest: not found: one path of several functions"])
+
+
 def selftest() -> list[str]:
     """Whether a planted function is taken for one of another class, or a function isn't missed whose edits were taken away."""
     stated = {(name, body): planted(body, "    ensures { result ≡ at }\n") for name, bodies in PLANTED.items() for body in bodies}
@@ -269,7 +339,8 @@ def selftest() -> list[str]:
     of_trait = [(it.path, it.class_in(set())) for it in functions_of("src/lib.rt", PLANTED_TRAIT.split("\n"), {})]
     failed += [] if of_trait == [("Held::unstated", NO_CONTRACT), ("U8Held::stated", NO_BODY)] else [f"selftest: of a trait: {of_trait}"]
     failed += [f"selftest: a sibling: {it}" for it in unlike_siblings()]
-    path, has_one = "gather::gather", turned("tls_codec_wire")
+    failed += [*unread_edits(), *missed_parameters()]
+    path, (has_one, _) = "gather::gather", turned(CRATES / "tls_codec_wire")
     found = [it.path for it in functions("tls_codec_wire") if it.class_in(has_one - {path}) != it.class_in(has_one)]
     return failed + ([] if found == [path] else [f"selftest: {path} without its edits isn't found"])
 
@@ -277,7 +348,8 @@ def selftest() -> list[str]:
 def main() -> int:
     failed, exceptions, counts = selftest(), excepted(), collections.Counter()
     passed, unused = int(not failed), set(exceptions)
-    checked = checked_functions()
+    checked, bad = checked_functions()
+    failed += [*bad, *alike(checked)]
     for name, kind in ((name, kind) for name, several in checked.items() for _, kind in several):
         if kind in LACKING and name in exceptions:
             unused.discard(name)

@@ -6,7 +6,7 @@
 - Each record of docs/DECISIONS.md, from `### ` on, is a question, begins with its date and commit, and fits on a screen.
 - What is like a commit in `code`, or comes after `git show`, is a commit up to that of this clone. In a copy that is no clone, or without
   git, this isn't checked.
-- Figures of the pages, and answers and sentences of docs/REFUSALS.md, are those of the files that have them (lib/figures.py).
+- Figures and lists of the pages, and answers, sentences and statuses of docs/REFUSALS.md, are those of their files (lib/figures.py).
 - The two short lists of "What to read" in docs/MAP.md are closed, and are as long as the page says. An item `1. **Formats**, 600 lines: ..`
   lists files under the short names of the crates; a file "to `word`" is read to the line before the first one that has the word. Each word
   that such a part takes from the specs or declarations of the repository's crates has to be in a part of the same list or of the list
@@ -28,7 +28,7 @@ from lib.libraries import CALLER_PAGES, CRATES, PAGES, TOP
 
 RECORDS = TOP / "docs/DECISIONS.md"
 MAX_WORDS = 15_000
-MAX_IN_BLOCKS = 4_000
+MAX_IN_BLOCKS = 4_100
 # The kinds of blocks that are code.
 CODE = ("c", "python", "rust")
 SCREEN = 32

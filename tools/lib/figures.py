@@ -3,7 +3,8 @@
 - A figure of FIGURES is what its files say: how many rows or names they have.
 - "Ten inputs" of docs/REFUSALS.md has as many rows as its heading says: those of the inputs that crates/test_values names for it, with
   their answers, and inputs that crates/test_types rejects.
-- The sentences there are those of the library's errors, one for each.
+- The sentences there are those of the library's errors, one for each, with the status that exports give it.
+- The kinds of `tlsview` in docs/MESSAGES.md, and those of the reader in row_reader.py, are those of its table of kinds.
 - The shares of time in README.md are those of the table in docs/BENCHMARKS.md.
 
 Wrong figures are planted first, and have to be found.
@@ -13,7 +14,7 @@ from __future__ import annotations
 import re
 from collections.abc import Callable, Iterator
 
-from lib import rejections
+from lib import exported, rejections, row_reader
 from lib.libraries import CRATES, TOP
 
 REFUSALS = TOP / "docs/REFUSALS.md"
@@ -76,6 +77,8 @@ FIGURES = [
     *((page, r"([\d,]+) inputs of `(?:tlsview|test_rows)`", rows("crates/test_rows/stdout")) for page in ("README.md", "docs/PROVED.md")),
     ("CONTRIBUTING.md", r"test_rows' ([\d,]+) answers", rows("crates/test_rows/stdout")),
     ("docs/PROVED.md", r"each of the (\d+) requests of `test_memory`", first("crates/test_memory/stdout")),
+    ("README.md", r"each of (\d+) requests for memory", first("crates/test_memory/stdout")),
+    ("tools/data/counts.txt", r"try_refused_requests\.py (\d+)", first("crates/test_memory/stdout")),
     ("docs/PROVED.md", r"and (\d+) rejections in them, by hand", lambda: len(rejections.REJECTIONS)),
     ("docs/MESSAGES.md", r"the (\w+) files of its `specs/`, [\d,]+ lines", lambda: len(PRESENTED)),
     ("docs/MESSAGES.md", r"the \w+ files of its `specs/`, ([\d,]+) lines", lines(*PRESENTED)),
@@ -112,7 +115,7 @@ def table(section: str) -> list[list[str]]:
     """The rows of the first table of a section of docs/REFUSALS.md, as cells."""
     text = REFUSALS.read_text().partition(f"\n## {section}\n")[2].split("\n## ")[0]
     listed = [line for line in text.split("\n") if line.startswith("|")][2:]
-    return [[cell.strip() for cell in line.strip("|").split(" | ")] for line in listed]
+    return [[cell.strip() for cell in re.split(r" \|(?= )", line.strip("|"))] for line in listed]
 
 
 def answers_of(answer: str) -> tuple[str, str]:
@@ -183,6 +186,41 @@ def sentence_findings() -> tuple[list[str], int]:
     return found + [f"docs/REFUSALS.md: a sentence for no error: {error}" for error in sorted(named - made)], len(made)
 
 
+def wrong_statuses(listed: list[list[str]], numbers: dict[str, int], never: set[str]) -> Iterator[str]:
+    """What isn't so of the statuses in these rows, by the numbers of all errors and by those that no caller gets."""
+    stated: dict[str, set[str]] = {}
+    for errors_of, status, *_ in listed:
+        for name in re.findall(r"`(\w+)(?:\([^`]*\))?`", errors_of):
+            stated.setdefault(name, set()).add(status)
+    for name, number in numbers.items():
+        right = set() if name in never else {str(number)}
+        if stated.get(name, set()) - {""} != right:
+            yield f"docs/REFUSALS.md: {name} has {f'the status {number}' if right else 'no status, since no call returns it'}"
+
+
+def status_findings() -> tuple[list[str], int]:
+    """Which errors have another status in docs/REFUSALS.md than in outcomes, and how many errors there are."""
+    numbers = {name: number for name, _, number in exported.numbers()}
+    never = {name for name, meaning in exported.MEANINGS.items() if meaning == "No call returns it."}
+    return list(wrong_statuses(table("For a person to read"), numbers, never)), len(numbers)
+
+
+def wrong_kinds(page: str, read: list[str], specs: str) -> Iterator[str]:
+    """How the kinds in this text of docs/MESSAGES.md and those that are read differ from those of this text of Kinds.antt."""
+    right = re.findall(r'\bkind \(codes "([^"]+)"\)', specs)
+    listed = re.search(r"^kinds +(.*?)(?:,.*?)?^status ", page, re.M | re.S)
+    if not right or not listed or listed[1].split() != right:
+        yield f"docs/MESSAGES.md: the kinds of tlsview are {' '.join(right)}"
+    if read != right:
+        yield f"tools/lib/row_reader.py: the kinds of tlsview are {' '.join(right)}"
+
+
+def kind_findings() -> tuple[list[str], int]:
+    """What isn't so of the kinds of `tlsview`, and how many lists of them there are."""
+    page, specs = (TOP / "docs/MESSAGES.md").read_text(), (CRATES / "tlsview_run/specs/Kinds.antt").read_text()
+    return list(wrong_kinds(page, list(row_reader.KINDS), specs)), 2
+
+
 def selftest() -> tuple[list[str], int]:
     """Whether wrong figures are found where they are planted, and none where they are right."""
     place = r"(\w+|[\d,]+) rows"
@@ -191,12 +229,27 @@ def selftest() -> tuple[list[str], int]:
         "a wrong word": ("It has ten\nrows.", 9),
         "no figure": ("It has many lines.", 9),
     }
+    listed, numbers = [["`One(\"a\")`, `Two(n)`", "1", "It."], ["`One(\"b\")`", "", "It."], ["`Three`", "", "It."]], {"One": 1, "Three": 3}
+    page = "kinds   one two\n        three, which\nstatus  0"
+    specs = "∷ ".join(f'kind (codes "{it}") (list {it})\n' for it in ("one", "two", "three"))
+    others = {
+        "another status": wrong_statuses(listed, {**numbers, "Two": 2}, {"Three"}),
+        "no status": wrong_statuses(listed, numbers, set()),
+        "a status of what no call returns": wrong_statuses(listed, numbers, {"One", "Three"}),
+        "an error without a row": wrong_statuses(listed, {**numbers, "Four": 4}, {"Three"}),
+        "a kind that isn't listed": wrong_kinds(page.replace(" two", ""), ["one", "two", "three"], specs),
+        "a kind that isn't there": wrong_kinds(page, ["one", "two", "three"], specs.replace('"two"', '"four"')),
+        "no list of kinds": wrong_kinds("kinds", ["one", "two", "three"], specs),
+        "a kind that isn't read": wrong_kinds(page, ["one", "three"], specs),
+    }
     missed = [f"selftest: not found: {fault}" for fault, (text, right) in planted.items() if not list(wrong_figures(text, place, right))]
+    missed += [f"selftest: not found: {fault}" for fault, found in others.items() if not list(found)]
     sound = [*wrong_figures("It has 2,216 rows.", r"([\d,]+) rows", 2216), *wrong_figures("It has ten rows.", place, 10)]
+    sound += [*wrong_statuses(listed, numbers, {"Three"}), *wrong_kinds(page, ["one", "two", "three"], specs)]
     return missed + [f"selftest: found: {it}" for it in sound], 1
 
 
 def findings() -> tuple[list[str], int]:
     """What isn't so, and how much was checked."""
-    parts = [selftest(), figure_findings(), input_findings(), sentence_findings()]
+    parts = [selftest(), figure_findings(), input_findings(), sentence_findings(), status_findings(), kind_findings()]
     return [line for found, _ in parts for line in found], sum(checked for _, checked in parts)

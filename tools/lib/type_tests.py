@@ -34,7 +34,7 @@ WHERE = {
     "memory": "a use in crates/test_memory/src/rows/",
 }
 
-LINE = re.compile(r"\b(Means|SameNames) ⟦<(.*?) as (?:Size|DeserializeBytes)>⟧(.*?) \}\n", re.S)
+LINE = re.compile(r"^ *ensures(?: \w+)? \{ (Means|SameNames) ⟦<(.*?) as (?:Size|DeserializeBytes)>⟧(.*?) \}\n", re.M | re.S)
 ALIAS = re.compile(r"^pub type (\w+)(?:<[^=]*>)? = (\w+)<", re.M)
 IMPL = re.compile(r"^impl(?:<[^{]*?>)? \w+ for ([^{]+?) \{\n(.*?)^\}", re.M | re.S)
 ARM = re.compile(r'^ {8}"([^"\n]+)" => (?:\{\s*)?answer_of::<(.*?)>\(alloc', re.M | re.S)
@@ -283,6 +283,9 @@ def unseen(given: Library, tried: Tests, without: set[tuple[str, str]]) -> Itera
             yield f"{test} of {name}"
     if not lacking(given._replace(types=given.types.replace("⟦<u64 as", "⟦<u128 as")), tried, without).get("u128"):
         yield "a type without tests"
+    never = given._replace(types=f"{given.types}// ensures u64 {{ SameNames ⟦<u64 as DeserializeBytes>⟧.names (λ x e. ⊥) }}\n")
+    if not lacking(never, planted["rejected", "u64"], without)["u64"]:
+        yield "a line that is a comment"
     if not lacking(given, tried, without | {("content", "u64")})[""]:
         yield "an exception that is none"
     fewer = without_rows(tried, "Vec<TlsByteVecU16>\t")
