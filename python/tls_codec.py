@@ -19,7 +19,7 @@ import pathlib
 from collections.abc import Callable, Iterator
 from typing import TypeVar, Union
 
-from tls_codec_exports import CALLS, FIELDS, MARK, STATUSES, VERSION, MlsWireFormat
+from tls_codec_exports import CALLS, FIELDS, MARK, SENTENCES, STATUSES, VERSION, MlsWireFormat
 
 __version__ = VERSION
 Buffer = Union[bytes, bytearray, memoryview]
@@ -54,12 +54,14 @@ class Span(ctypes.Structure):
 
 
 class Rejected(ValueError):
-    """Why bytes are rejected: `error`, a name of STATUSES in tls_codec_exports, and `status`, its number; `at`, where the rejected field or
-    the rest begins, and None of a field that the decoder rejects; and `detail`, the value of an UnknownValue, or 0."""
+    """Why bytes are rejected: `error`, a name of STATUSES in tls_codec_exports, and `status`, its number; `sentence`, for a person to read;
+    `at`, where the rejected field or the rest begins, and None of a field that the decoder rejects; and `detail`, the value of an
+    UnknownValue, or 0."""
 
     def __init__(self, status: int, at: int | None, detail: int = 0) -> None:
         self.status, self.at, self.detail = status, at, detail
         self.error = STATUSES[status] if status < len(STATUSES) else str(status)
+        self.sentence = SENTENCES.get(self.error, "")
         number = f" ({detail})" if self.error == "UnknownValue" else ""
         super().__init__(f"{self.error}{number}" + ("" if at is None else f" at byte {at}"))
 

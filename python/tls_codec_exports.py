@@ -6,7 +6,7 @@ import enum
 VERSION = "0.3.0"
 
 # What archives of this version and these headers have beside them.
-MARK = "0.3.0 555cb9c846690695"
+MARK = "0.3.0 f066d2b3725f7b1e"
 
 # The names of the statuses, by their numbers.
 STATUSES = [
@@ -22,6 +22,18 @@ STATUSES = [
     "LibraryError",
     "OutOfMemory",
 ]
+
+# A sentence on each, for a person to read, of those that a call returns.
+SENTENCES = {
+    "Accepted": "The bytes are accepted.",
+    "InvalidVectorLength": "A length isn't in its shortest form, or isn't allowed for its field.",
+    "InvalidWriteLength": "The buffer to write into is too small.",
+    "DecodingError": "Content is cut off, an element passes its list's end, or an option doesn't begin with 0 or 1.",
+    "EndOfStream": "The message, or a list in it, ends within a field.",
+    "TrailingData": "Bytes come after the message, or after a part that was to fill a length.",
+    "UnknownValue": "A number names no case of this message, or isn't the value that a field must have.",
+    "OutOfMemory": "Memory ran out.",
+}
 
 # The functions that are given bytes, and then what they fill.
 CALLS = [

@@ -3,8 +3,8 @@
 
 - A block of code has to occur, line by line and in order, in the file that the words before it name
   (`src/leaf.rt`, `specs/Messages.antt`), or, if they name none, in one file under crates/. From a function's head it leaves out no
-  clause after a line that it quotes. Space at both ends of a line doesn't count; c/, python/ and rust/ are read as crates/ is. A block is
-  no quote if it is `console`, or after a line <!-- not quoted --> or <!-- file: PATH -->.
+  clause after a line that it quotes. Space at both ends of a line doesn't count, nor does `pub(super)`; c/, python/ and rust/ are read as
+  crates/ is. A block is no quote if it is `console`, or after a line <!-- not quoted --> or <!-- file: PATH -->.
 - A link that isn't of another site has to lead to a file of the repository, and to a heading of it.
 - A name in `code` that is a path under crates/, docs/, tools/ or .ci/, or has an underscore in it, has to occur in the repository;
   names of what was before, in CHANGELOG.md, and a few of elsewhere don't. So has a path under a crate's short name (page_limits.SHORT), as
@@ -40,7 +40,7 @@ from lib.libraries import CALLER_PAGES, PAGES, TOP, files_of_clone
 Fault = tuple[int, str]
 LINK = re.compile(r"\]\(([^()\s]+)\)")
 CODE = re.compile(r"`([^`]+)`")
-ELSEWHERE = {"conditionally_deserializable", "from_iter", "read_to_end"}
+ELSEWHERE = {"conditionally_deserializable", "from_iter", "read_to_end", "set_write_timeout"}
 NAMED = re.compile(r"`((?:src|specs|proofs|must-fail|wrong)/[\w/.-]+|(?:stdin|stdout))`")
 # A path in a block, from the top or from a crate on, and what a reader or a build puts in.
 OF_CRATE = r"(?:src|specs|proofs|wrong|must-fail|runs)/"
@@ -61,7 +61,7 @@ CLAUSES = ("requires", "ensures")
 
 
 def sources(*folders: str) -> dict[str, list[str]]:
-    """Each text file in these folders, by its path, as lines without the space around them."""
+    """Each text file in these folders, by its path, as lines without the space around them, and without `pub(super)`."""
     files = {}
     for path in files_of_clone():
         if path.parts[0] in folders:
@@ -69,7 +69,7 @@ def sources(*folders: str) -> dict[str, list[str]]:
                 text = (TOP / path).read_text()
             except UnicodeDecodeError:
                 continue
-            files[path.as_posix()] = [line.strip() for line in text.split("\n")]
+            files[path.as_posix()] = [line.strip().removeprefix("pub(super) ") for line in text.split("\n")]
     return files
 
 

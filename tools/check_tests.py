@@ -2,7 +2,8 @@
 """Compares how many tests each crate has, the functions after `#[test]`, with its line `CRATE N` in tools/data/tests.txt.
 
 Fewer fail: no test goes unseen. More fail too, with the line to write, as do a crate without a line and a line without a crate. And a line
-`mod NAME;` names each file that has tests in the file above it, and that one too, up to lib.rt or main.rt.
+`mod NAME;` names each file that has tests in the file above it, and that one too, up to lib.rt or main.rt, and it has no #[cfg(..)] but
+#[cfg(test)]. The body of each test has a word that asserts something, or a `?`. Comments don't count.
 
 Before that it tries itself on crates with one fault each, on counts tools/lib/counts.sh, with which .ci/run and quick compare what scripts
 count, and on a clone whose files change tools/lib/state.sh, with which .ci/run notices that. Prints what isn't so; last 'N passed, N
@@ -20,9 +21,20 @@ from collections.abc import Iterator
 from lib.libraries import CRATES, TOP
 
 LINES = TOP / "tools/data/tests.txt"
-TEST = re.compile(r"^ *#\[test\]\n(?: *(?:#\[|//).*\n)* *(?:pub )?fn \w", re.M)
+TEST = re.compile(r"^ *#\[test\] *\n(?: *(?:#\[.*)?\n)* *(?:pub )?fn \w", re.M)
+# A test's name and its body, and what a body has that can fail.
+BODY = re.compile(r"^( *)#\[test\] *\n(?: *(?:#\[.*)?\n)* *(?:pub )?fn (\w+)([^\n]*\}$|(?s:.*?)^\1\}$)", re.M)
+CAN_FAIL = re.compile(r"assert|same|holds|expect_|matches|comes_back|one_layout|_calls!|\?")
+# A comment, or a string or a character, in which nothing is one. A condition under which code isn't there.
+COMMENT = re.compile(r'\'(?:[^\'\\\n]|\\.)\'|"(?:[^"\\]|\\.)*"|/\*.*?\*/|//[^\n]*', re.S)
+CONDITION = re.compile(r"^ *#!?\[cfg\((?!test\)\])[^\n]*", re.M)
 # The texts of a crate's files, by their paths below src/.
 Files = dict[str, str]
+
+
+def uncommented(text: str) -> str:
+    """This text with blanks in place of its comments."""
+    return COMMENT.sub(lambda it: it[0] if it[0][0] in "'\"" else re.sub(r"[^\n]", " ", it[0]), text)
 
 
 def files_of_crates() -> dict[str, Files]:
@@ -31,9 +43,24 @@ def files_of_crates() -> dict[str, Files]:
     return {it.parent.name: {path.relative_to(it).as_posix(): path.read_text() for path in sorted(it.rglob("*.rt"))} for it in folders}
 
 
+def conditional(files: Files) -> Iterator[str]:
+    """The conditions in files with tests under which these may not be there."""
+    for path, text in files.items():
+        if TEST.search(text) or re.search(r"^ *(?:pub )?mod tests\b", text, re.M):
+            yield from (f"{path}: {it.strip()}" for it in CONDITION.findall(text))
+
+
 def tests_in(files: Files) -> int:
     """How many tests these files have."""
     return sum(len(TEST.findall(text)) for text in files.values())
+
+
+def idle(files: Files) -> Iterator[str]:
+    """The tests of these files whose bodies assert nothing."""
+    for path, text in files.items():
+        for _, name, body in BODY.findall(text):
+            if not CAN_FAIL.search(body):
+                yield f"{path}: the test {name} asserts nothing"
 
 
 def unread(files: Files) -> Iterator[str]:
@@ -66,16 +93,22 @@ def findings(crates: dict[str, Files], lines: str) -> dict[str, list[str]]:
     for line in lines.splitlines():
         if line and not line.startswith("#"):
             stated.setdefault(line.split(" ")[0], []).append(line.partition(" ")[2])
+    crates = {crate: {path: uncommented(text) for path, text in files.items()} for crate, files in crates.items()}
     counts = {crate: tests_in(files) for crate, files in crates.items()}
     named = sorted({crate for crate, count in counts.items() if count} | stated.keys())
     found = {it: list(wrong_count(it, counts.get(it, 0), stated.get(it, []))) for it in named}
-    return {it: lines + [f"crates/{it}/src/{line}" for line in unread(crates.get(it, {}))] for it, lines in found.items()}
+    return {
+        it: lines + [f"crates/{it}/src/{line}" for asked in (unread, idle, conditional) for line in asked(crates.get(it, {}))]
+        for it, lines in found.items()
+    }
 
 
-# A crate of three tests, and one that has none.
-TESTS = "#[test]\nfn one(rt: HostRuntime) {}\n\n// three\n#[test]\n// (a comment)\n#[inline]\npub fn two() {}\n"
+# A crate of three tests, one that has none, and a test that asserts nothing.
+TESTS = "#[test]\nfn one(rt: HostRuntime) {\n    same(1, 1);\n}\n\n// three\n#[test]\n// (a comment)\n#[inline]\npub fn two() { it()? }\n"
+IDLE = TESTS.replace("same(1, 1);", "")
+INDENTED = "    #[test]\n    fn it() {\n        assert!(rt; true);\n    }\n"
 SOUND = {
-    "held": {"lib.rt": "#[cfg(test)]\nmod tests;\n", "tests.rt": f"mod one;\n{TESTS}", "tests/one.rt": "    #[test]\n    fn it() {}\n"},
+    "held": {"lib.rt": "#[cfg(test)]\nmod tests;\n", "tests.rt": f"mod one;\n{TESTS}", "tests/one.rt": INDENTED},
     "other": {"main.rt": "// #[test]\nfn main() {}\n", "unread.rt": ""},
 }
 LINE = "# a comment\nheld 3\n"
@@ -96,6 +129,11 @@ def selftest() -> list[str]:
         "a line of a crate without tests": findings(SOUND, f"{LINE}other 0\n"),
         "a comment of a test": findings({"held": held | {"tests/one.rt": "// #[test]\nfn it() {}\n"}}, LINE),
         "no line of a module": findings({"held": held | {"tests.rt": f"mod other;\n{TESTS}"}}, LINE),
+        "a test without an assertion": findings({"held": held | {"tests.rt": f"mod one;\n{IDLE}"}}, LINE),
+        "a comment of an assertion": findings({"held": held | {"tests.rt": f"mod one;\n{TESTS.replace('same', '// same')}"}}, LINE),
+        "a test in a comment": findings({"held": held | {"tests/one.rt": f"/*\n{INDENTED}*/\n"}}, LINE),
+        "a module in a comment": findings({"held": held | {"tests.rt": f"/*\nmod one;\n*/\n{TESTS}"}}, LINE),
+        "a condition of a module": findings({"held": held | {"tests.rt": f"#[cfg(any())]\nmod one;\n{TESTS}"}}, LINE),
         "a module of no crate": findings({"held": held | {"lib.rt": "// mod tests;\n"}}, LINE),
     }
     missed = [f"selftest: not found: {fault}" for fault, found in planted.items() if not any(found.values())]

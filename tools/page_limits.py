@@ -3,10 +3,11 @@
 
 - All pages except docs/DECISIONS.md have at most MAX_WORDS words outside of their blocks: what is between blanks and has a letter, and
   each `code` once. And they have at most MAX_IN_BLOCKS in blocks after <!-- not quoted --> that are no code.
-- Each record of docs/DECISIONS.md, from `### ` on, is a question, begins with its date and commit, and fits on a screen.
+- Each record of docs/DECISIONS.md, from `### ` on, is a question, begins with its date and commit, and fits on a screen. The list at the
+  top has them all.
 - What is like a commit in `code`, or comes after `git show`, is a commit up to that of this clone. In a copy that is no clone, or without
   git, this isn't checked.
-- Figures and lists of the pages, and answers, sentences and statuses of docs/REFUSALS.md, are those of their files (lib/figures.py).
+- Figures and lists of the pages, and answers, sentences and statuses of docs/ERRORS.md, are those of their files (lib/figures.py).
 - The two short lists of "What to read" in docs/MAP.md are closed, and are as long as the page says. An item `1. **Formats**, 600 lines: ..`
   lists files under the short names of the crates; a file "to `word`" is read to the line before the first one that has the word. Each word
   that such a part takes from the specs or declarations of the repository's crates has to be in a part of the same list or of the list
@@ -104,7 +105,10 @@ def commit_findings() -> tuple[list[str], int]:
 
 def record_findings() -> tuple[list[str], int]:
     """Which records of docs/DECISIONS.md are no question, have no date or are too long, and how many there are."""
-    found, records = [], RECORD.findall(RECORDS.read_text())
+    page = RECORDS.read_text()
+    found, records = [], RECORD.findall(page)
+    if re.findall(r"^- \[(.*)\]\(#", page, re.M) != [title for title, _ in records]:
+        found.append("docs/DECISIONS.md: the list of records at its top isn't that of its headings")
     for title, text in records:
         if not title.endswith("?"):
             found.append(f"docs/DECISIONS.md: no question: {title}")

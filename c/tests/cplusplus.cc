@@ -44,6 +44,7 @@ int main() {
                        tls_codec_whole_status(one, 1) == TLS_CODEC_ACCEPTED && tls_codec_whole(one, sizeof varint).at == 1 &&
                        tls_codec_whole(one, sizeof varint).taken == 0 && tls_codec_whole(one, 1).taken == 1 &&
                        tls_codec_whole(outcome, sizeof suite).at == 2 &&
-                       std::strcmp(tls_codec_status_name(none.status), "EndOfStream") == 0;
+                       std::strcmp(tls_codec_status_name(none.status), "EndOfStream") == 0 &&
+                       std::strcmp(tls_codec_status_sentence(none.status), "The message, or a list in it, ends within a field.") == 0;
   return is_well ? 0 : 1;
 }

@@ -57,6 +57,20 @@ impl Error {
             other => Error::Other(other),
         }
     }
+
+    /// A sentence on it, for a person to read.
+    pub fn sentence(&self) -> &'static str {
+        match self {
+            Error::InvalidVectorLength => "A length isn't in its shortest form, or isn't allowed for its field.",
+            Error::InvalidWriteLength => "The buffer to write into is too small.",
+            Error::DecodingError => "Content is cut off, an element passes its list's end, or an option doesn't begin with 0 or 1.",
+            Error::EndOfStream => "The message, or a list in it, ends within a field.",
+            Error::TrailingData => "Bytes come after the message, or after a part that was to fill a length.",
+            Error::UnknownValue(_) => "A number names no case of this message, or isn't the value that a field must have.",
+            Error::OutOfMemory => "Memory ran out.",
+            _ => "No call of these returns it.",
+        }
+    }
 }
 
 /// A place in some bytes.

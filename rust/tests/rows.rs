@@ -77,6 +77,7 @@ fn nothing_may_be_left() {
     assert_eq!(tls13::validate_alert(&[1, 0, 7]), Err(left));
     assert_eq!(tls13::validate_alert_prefix(&[1, 0, 7]), Ok((&[1, 0][..], &[7][..])));
     assert_eq!(left.to_string(), "TrailingData at byte 2");
+    assert_eq!(left.error.sentence(), "Bytes come after the message, or after a part that was to fill a length.");
     let unknown = tls13::validate_key_update(&[192]).map_err(|it| it.to_string());
     assert_eq!(unknown, Err("UnknownValue (192) at byte 0".to_string()));
     let none = Rejected { error: Error::EndOfStream, at: 0 };

@@ -97,7 +97,7 @@ def change(crate: pathlib.Path, file: str, after: list[str], old: str, new: str)
     top = "specs/" if crate.name.endswith(LAWS) else "src/"
     if not file.startswith(top) or ".." in file or not (crate / file).is_file():
         raise BadEdit(f"its line 'file:' names no file below {top}: {file}")
-    if not old or old == new:
+    if not old or old == new.split(" //")[0]:
         raise BadEdit("a line 'new:' changes nothing")
     text = (crate / file).read_text(encoding="utf-8")
     if not after and text.count(old) != 1:

@@ -286,6 +286,17 @@ def numbers() -> list[tuple[str, bool, int]]:
     return found
 
 
+def sentences() -> dict[str, str]:
+    """The sentence for a person to read on each error that a caller may get, as docs/ERRORS.md has it."""
+    table = (TOP / "docs/ERRORS.md").read_text().partition("\n## For a person to read\n")[2]
+    rows = re.findall(r"^\| `(\w+)(?:\(n\))?`[^|]* \| \d+ \| (.*) \|$", table, re.M)
+    found = {"Accepted": "The bytes are accepted."} | dict(rows)
+    wanted = [name for name, meaning in MEANINGS.items() if meaning != "No call returns it."]
+    if list(found) != sorted(found, key=wanted.index) or len(found) != len(wanted) or len(rows) != len(dict(rows)):
+        raise Failed(f"docs/ERRORS.md has sentences on {', '.join(found)}, and callers get {', '.join(wanted)}")
+    return found
+
+
 def taken_by(export: Export) -> str:
     """The struct that a function fills."""
     if len(export.parameters) < 2:

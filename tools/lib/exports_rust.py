@@ -6,7 +6,7 @@ import re
 
 from lib.exported import CALLS, MEANINGS, WRITTEN, Export
 from lib.exported import about, archive_of, decoders, exports_of, filled, libraries, module_of, named_as_in_the_rfc, numbers, struct_of
-from lib.exported import taken_by, validators
+from lib.exported import sentences, taken_by, validators
 from lib.failed import Failed
 from lib.registries import enums_in_rust
 
@@ -220,7 +220,11 @@ def exports_rust() -> str:
     body += ["impl Error {", "    pub(crate) fn of(outcome: &Outcome) -> Error {", "        match outcome.status {"]
     for name, _, number in numbers():
         body += [f"            {number} => Error::{name}(outcome.detail)," if name in values else f"            {number} => Error::{name},"]
-    body += ["            other => Error::Other(other),", "        }", "    }", "}"]
+    body += ["            other => Error::Other(other),", "        }", "    }", "", "    /// A sentence on it, for a person to read."]
+    body += ["    pub fn sentence(&self) -> &'static str {", "        match self {"]
+    said = [(f"{name}(_)" if name in values else name, sentence) for name, sentence in sentences().items() if name != "Accepted"]
+    body += [f'            Error::{name} => "{sentence}",' for name, sentence in said]
+    body += ['            _ => "No call of these returns it.",', "        }", "    }", "}"]
     body += ["", *struct_in_rust("Span")]
     for crate in libraries():
         body += decoders_in_rust(crate) if crate in decoders() else module_in_rust(crate)

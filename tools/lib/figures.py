@@ -1,9 +1,10 @@
 """Figures and answers in pages, held to the files that have them.
 
 - A figure of FIGURES is what its files say: how many rows or names they have.
-- "Ten inputs" of docs/REFUSALS.md has as many rows as its heading says: those of the inputs that crates/test_values names for it, with
+- "Ten inputs" of docs/ERRORS.md has as many rows as its heading says: those of the inputs that crates/test_values names for it, with
   their answers, and inputs that crates/test_types rejects.
 - The sentences there are those of the library's errors, one for each, with the status that exports give it.
+- Each `DecodingError("..")` and `EncodingError("..")` in a page is an error that the library makes.
 - The kinds of `tlsview` in docs/MESSAGES.md, and those of the reader in row_reader.py, are those of its table of kinds.
 - The shares of time in README.md are those of the table in docs/BENCHMARKS.md.
 
@@ -15,11 +16,11 @@ import re
 from collections.abc import Callable, Iterator
 
 from lib import exported, rejections, row_reader
-from lib.libraries import CRATES, TOP
+from lib.libraries import CRATES, PAGES, TOP
 
-REFUSALS = TOP / "docs/REFUSALS.md"
+ERRORS = TOP / "docs/ERRORS.md"
 WORDS = {"nine": 9, "ten": 10, "eleven": 11, "twelve": 12}
-EXPLAINED = "# The inputs that `docs/REFUSALS.md` explains.\n"
+EXPLAINED = "# The inputs that `docs/ERRORS.md` explains.\n"
 OUTCOMES = ("crates/test_outcome/stdout", "c/tests/tls13.tsv")
 
 
@@ -76,6 +77,7 @@ PRESENTED = sorted(str(it.relative_to(TOP)) for it in (CRATES / "tls_presentatio
 FIGURES = [
     *((page, r"([\d,]+) inputs of `(?:tlsview|test_rows)`", rows("crates/test_rows/stdout")) for page in ("README.md", "docs/PROVED.md")),
     ("CONTRIBUTING.md", r"test_rows' ([\d,]+) answers", rows("crates/test_rows/stdout")),
+    ("README.md", r"the kit `([\w-]+)`", lambda: re.search(r"`([\w-]+) logic \w+` \(`rt version`\)", (TOP / "README.md").read_text())[1]),
     ("docs/PROVED.md", r"each of the (\d+) requests of `test_memory`", first("crates/test_memory/stdout")),
     ("README.md", r"each of (\d+) requests for memory", first("crates/test_memory/stdout")),
     ("tools/data/counts.txt", r"try_refused_requests\.py (\d+)", first("crates/test_memory/stdout")),
@@ -112,8 +114,8 @@ def figure_findings() -> tuple[list[str], int]:
 
 
 def table(section: str) -> list[list[str]]:
-    """The rows of the first table of a section of docs/REFUSALS.md, as cells."""
-    text = REFUSALS.read_text().partition(f"\n## {section}\n")[2].split("\n## ")[0]
+    """The rows of the first table of a section of docs/ERRORS.md, as cells."""
+    text = ERRORS.read_text().partition(f"\n## {section}\n")[2].split("\n## ")[0]
     listed = [line for line in text.split("\n") if line.startswith("|")][2:]
     return [[cell.strip() for cell in re.split(r" \|(?= )", line.strip("|"))] for line in listed]
 
@@ -125,7 +127,7 @@ def answers_of(answer: str) -> tuple[str, str]:
 
 
 def explained() -> dict[tuple[str, str], tuple[str, str]]:
-    """The inputs that test_values has for docs/REFUSALS.md, by their types and bytes, with the errors of both paths."""
+    """The inputs that test_values has for docs/ERRORS.md, by their types and bytes, with the errors of both paths."""
     pairs = [(CRATES / "test_values" / file).read_text().split(EXPLAINED)[1].split("\n#")[0].splitlines() for file in ("stdin", "stdout")]
     found = {}
     for given, line in zip(*pairs, strict=True):
@@ -155,12 +157,12 @@ def input_findings() -> tuple[list[str], int]:
         seen.add(key)
         right = given.get(key) or others.get(key)
         if right is None:
-            found.append(f"docs/REFUSALS.md: no test of {' '.join(key)}")
+            found.append(f"docs/ERRORS.md: no test of {' '.join(key)}")
         elif right != stated:
-            found.append(f"docs/REFUSALS.md: {' '.join(key)} is {right[0]}, by a reader {right[1]}")
-    found += [f"docs/REFUSALS.md: no row for {' '.join(key)}" for key in given if key not in seen]
+            found.append(f"docs/ERRORS.md: {' '.join(key)} is {right[0]}, by a reader {right[1]}")
+    found += [f"docs/ERRORS.md: no row for {' '.join(key)}" for key in given if key not in seen]
     if len(listed) != WORDS["ten"]:
-        found.append(f"docs/REFUSALS.md: {len(listed)} inputs")
+        found.append(f"docs/ERRORS.md: {len(listed)} inputs")
     return found, len(listed)
 
 
@@ -179,11 +181,24 @@ def without_text() -> set[str]:
 
 
 def sentence_findings() -> tuple[list[str], int]:
-    """Which errors of the library have no sentence in docs/REFUSALS.md, which sentences have no error, and how many errors there are."""
+    """Which errors of the library have no sentence in docs/ERRORS.md, which sentences have no error, and how many errors there are."""
     made = errors() | without_text()
     named = {it.removesuffix("(n)") for cells in table("For a person to read") for it in re.findall(r"`([^`]*)`", cells[0])}
-    found = [f"docs/REFUSALS.md: no sentence for {error}" for error in sorted(made - named)]
-    return found + [f"docs/REFUSALS.md: a sentence for no error: {error}" for error in sorted(named - made)], len(made)
+    found = [f"docs/ERRORS.md: no sentence for {error}" for error in sorted(made - named)]
+    return found + [f"docs/ERRORS.md: a sentence for no error: {error}" for error in sorted(named - made)], len(made)
+
+
+def wrong_texts(page: str, made: set[str]) -> Iterator[str]:
+    """The texts of errors in this page that no error of the library has."""
+    for text in sorted(set(re.findall(r'(?:De|En)codingError\("[^"]+"\)', page)) - made):
+        yield f"no error of the library: {text}"
+
+
+def text_findings() -> tuple[list[str], int]:
+    """Which pages have errors with texts that no error of the library has, and how many pages there are."""
+    made = errors()
+    found = [f"{page.relative_to(TOP)}: {it}" for page in PAGES for it in wrong_texts(page.read_text(), made)]
+    return found, len(PAGES)
 
 
 def wrong_statuses(listed: list[list[str]], numbers: dict[str, int], never: set[str]) -> Iterator[str]:
@@ -195,11 +210,11 @@ def wrong_statuses(listed: list[list[str]], numbers: dict[str, int], never: set[
     for name, number in numbers.items():
         right = set() if name in never else {str(number)}
         if stated.get(name, set()) - {""} != right:
-            yield f"docs/REFUSALS.md: {name} has {f'the status {number}' if right else 'no status, since no call returns it'}"
+            yield f"docs/ERRORS.md: {name} has {f'the status {number}' if right else 'no status, since no call returns it'}"
 
 
 def status_findings() -> tuple[list[str], int]:
-    """Which errors have another status in docs/REFUSALS.md than in outcomes, and how many errors there are."""
+    """Which errors have another status in docs/ERRORS.md than in outcomes, and how many errors there are."""
     numbers = {name: number for name, _, number in exported.numbers()}
     never = {name for name, meaning in exported.MEANINGS.items() if meaning == "No call returns it."}
     return list(wrong_statuses(table("For a person to read"), numbers, never)), len(numbers)
@@ -237,6 +252,7 @@ def selftest() -> tuple[list[str], int]:
         "no status": wrong_statuses(listed, numbers, set()),
         "a status of what no call returns": wrong_statuses(listed, numbers, {"One", "Three"}),
         "an error without a row": wrong_statuses(listed, {**numbers, "Four": 4}, {"Three"}),
+        "a text of no error": wrong_texts('`DecodingError("one")`, `EncodingError("two")`', {'DecodingError("one")'}),
         "a kind that isn't listed": wrong_kinds(page.replace(" two", ""), ["one", "two", "three"], specs),
         "a kind that isn't there": wrong_kinds(page, ["one", "two", "three"], specs.replace('"two"', '"four"')),
         "no list of kinds": wrong_kinds("kinds", ["one", "two", "three"], specs),
@@ -246,10 +262,11 @@ def selftest() -> tuple[list[str], int]:
     missed += [f"selftest: not found: {fault}" for fault, found in others.items() if not list(found)]
     sound = [*wrong_figures("It has 2,216 rows.", r"([\d,]+) rows", 2216), *wrong_figures("It has ten rows.", place, 10)]
     sound += [*wrong_statuses(listed, numbers, {"Three"}), *wrong_kinds(page, ["one", "two", "three"], specs)]
+    sound += wrong_texts('`DecodingError("one")`', {'DecodingError("one")'})
     return missed + [f"selftest: found: {it}" for it in sound], 1
 
 
 def findings() -> tuple[list[str], int]:
     """What isn't so, and how much was checked."""
-    parts = [selftest(), figure_findings(), input_findings(), sentence_findings(), status_findings(), kind_findings()]
+    parts = [selftest(), figure_findings(), input_findings(), sentence_findings(), text_findings(), status_findings(), kind_findings()]
     return [line for found, _ in parts for line in found], sum(checked for _, checked in parts)

@@ -1,6 +1,6 @@
 """Says of bytes what the validators of the static libraries say, by the texts and notes of crates/tlsgen/data.
 
-It shares no code with the library or with what `tlsgen` writes. It follows RFC 8446, section 3, and the pages: docs/REFUSALS.md (the slice
+It shares no code with the library or with what `tlsgen` writes. It follows RFC 8446, section 3, and the pages: docs/ERRORS.md (the slice
 path), docs/MESSAGES.md (which numbers an enum has, and what a note says) and docs/CALLERS.md (statuses, places and spans).
 """
 from __future__ import annotations

@@ -7,8 +7,8 @@ IDENTITY_CUT_OFF = (
 )
 # RFC 9420, section 7.2: three bytes hold one version of two, and half of another
 HALF_A_VERSION = (
-    'rejected at byte 28, in key_package.leaf_node.capabilities.versions[1]: DecodingError("elements do not fill the '
-    'declared length"): expected ProtocolVersion: mls10 (1), 1 byte is left'
+    'rejected at byte 28, in key_package.leaf_node.capabilities.versions[1]: '
+    'DecodingError("elements do not fill the declared length"): expected ProtocolVersion: mls10 (1), 1 byte is left'
 )
 # What is printed of the stored runs that are rejected, by hand: the byte, the path, the error, and what was expected there.
 REJECTIONS = {
@@ -17,8 +17,8 @@ REJECTIONS = {
     "rejected_list": HALF_A_VERSION,
     # a length of 63, and 59 bytes
     "rejected_length": (
-        'rejected at byte 19, in key_package.leaf_node.credential.identity: DecodingError("declared content is not '
-        'there"): expected opaque identity<V>, its length announces 63 bytes, 59 are left'
+        'rejected at byte 19, in key_package.leaf_node.credential.identity: '
+        'DecodingError("declared content is not there"): expected opaque identity<V>, its length announces 63 bytes, 59 are left'
     ),
     # section 6.3: an epoch has eight bytes
     "no_message": "rejected at byte 5, in private_message.epoch: EndOfStream: expected uint64 epoch, 1 byte is left",

@@ -1,7 +1,7 @@
 """Reads the kinds of `tlsview` by both paths, and gives the lines that it prints.
 
 It shares no code with the library. It follows RFC 8446, section 3, and RFC 9000, section 16, as docs/DEFINITIONS.md (formats) and
-docs/REFUSALS.md (the error that each path names) have them; Kinds.antt and Texts.antt of tlsview_run say what the kinds are and how values
+docs/ERRORS.md (the error that each path names) have them; Kinds.antt and Texts.antt of tlsview_run say what the kinds are and how values
 are printed. The paths differ in two rules, and in nothing else: from a reader a list ends for its elements where its length says, and a
 content that isn't all there is `EndOfStream`.
 """

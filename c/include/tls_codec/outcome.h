@@ -25,7 +25,7 @@
 #define TLS_CODEC_VERSION_NUMBER 300
 
 /* The line that `tls_codec.version` beside archives of just these headers has. */
-#define TLS_CODEC_HEADERS "0.3.0 555cb9c846690695"
+#define TLS_CODEC_HEADERS "0.3.0 f066d2b3725f7b1e"
 
 /* A call's status. The numbers don't change. */
 enum tls_codec_status {
@@ -110,6 +110,21 @@ static inline const char *tls_codec_status_name(uint32_t status) {
   case TLS_CODEC_UNKNOWN_VALUE: return "UnknownValue";
   case TLS_CODEC_LIBRARY_ERROR: return "LibraryError";
   case TLS_CODEC_OUT_OF_MEMORY: return "OutOfMemory";
+  default: return "?";
+  }
+}
+
+/* A sentence on a status, for a person to read; "?" of a number that no call returns. */
+static inline const char *tls_codec_status_sentence(uint32_t status) {
+  switch (status) {
+  case TLS_CODEC_ACCEPTED: return "The bytes are accepted.";
+  case TLS_CODEC_INVALID_VECTOR_LENGTH: return "A length isn't in its shortest form, or isn't allowed for its field.";
+  case TLS_CODEC_INVALID_WRITE_LENGTH: return "The buffer to write into is too small.";
+  case TLS_CODEC_DECODING_ERROR: return "Content is cut off, an element passes its list's end, or an option doesn't begin with 0 or 1.";
+  case TLS_CODEC_END_OF_STREAM: return "The message, or a list in it, ends within a field.";
+  case TLS_CODEC_TRAILING_DATA: return "Bytes come after the message, or after a part that was to fill a length.";
+  case TLS_CODEC_UNKNOWN_VALUE: return "A number names no case of this message, or isn't the value that a field must have.";
+  case TLS_CODEC_OUT_OF_MEMORY: return "Memory ran out.";
   default: return "?";
   }
 }

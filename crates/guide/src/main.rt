@@ -41,21 +41,22 @@ mod tests;
 use rewrite::rewrite;
 use std::env;
 use std::fs::File;
+use std::process::ExitCode;
 use tls_codec::{Error, Outside};
 
-fn main(rt: HostRuntime) -> Result<(), Error> {
+fn main(rt: HostRuntime) -> Result<ExitCode, Error> {
     let alloc = rt.alloc();
     let mut output = Outside::new(rt.stdout());
     let words: Vec<String> = env::args(&rt)?.collect(alloc)?;
     match words.as_slice() {
-        [_program, path] => {
-            let mut input = Outside::new(File::open(&rt, path.as_str())?);
-            rewrite(alloc, &mut input, &mut output)?;
-        }
-        _ => {
-            let mut input = Outside::new(rt.stdin());
-            rewrite(alloc, &mut input, &mut output)?;
-        }
-    }
-    Ok(())
+        [_program, path] => match File::open(&rt, path.as_str()) {
+            Ok(file) => rewrite(alloc, &mut Outside::new(file), &mut output)?,
+            Err(error) => {
+                eprintln!(rt; "{path}: {error}")?;
+                return Ok(ExitCode::FAILURE);
+            }
+        },
+        _ => rewrite(alloc, &mut Outside::new(rt.stdin()), &mut output)?,
+    };
+    Ok(ExitCode::SUCCESS)
 }

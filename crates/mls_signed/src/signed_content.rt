@@ -14,10 +14,10 @@ pub type FramedContentTBSParts = (
     Then<FramedContent, By<SenderType, When<AnyOf<Is<1>, Is<4>>, GroupContext>>>,
 );
 
-/// Writes a `FramedContentTBS` of an encoded `FramedContent` and `GroupContext`, and says what validation says of what it wrote.
+/// Writes a `FramedContentTBS` of an encoded `FramedContent` and `GroupContext`, and returns the outcome of validating it.
 ///
-/// The context is empty unless the sender is a member, or a new member that commits. None: the buffer has less room than the
-/// four bytes before the content, the content and the context take, and nothing is written.
+/// The context is empty unless the sender is a member, or a new member that commits. `None`: the buffer has fewer bytes than the
+/// four before the content, the content and the context, and nothing is written.
 pub fn framed_content_tbs(
     wire_format: u16,
     content: &[u8],

@@ -13,6 +13,7 @@ mod sending;
 mod shapes;
 mod signed;
 mod signed_parts;
+mod signing;
 mod to_end;
 mod views;
 

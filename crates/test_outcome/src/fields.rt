@@ -42,7 +42,7 @@ pub fn located(alloc: Global, name: &str, bytes: &[u8]) -> Result<Vec<Span>, All
     }
 }
 
-// Of messages that don't frame a content.
+// The places of the fields of messages that describe or change a group.
 fn located_of_a_group(alloc: Global, name: &str, bytes: &[u8]) -> Result<Vec<Span>, AllocError> {
     match name {
         "mls_welcome" => {
@@ -77,7 +77,7 @@ fn located_of_a_group(alloc: Global, name: &str, bytes: &[u8]) -> Result<Vec<Spa
     }
 }
 
-// The places of the fields of what a member has in the tree.
+// The places of the fields of key packages and leaf nodes.
 fn located_of_a_member(alloc: Global, name: &str, bytes: &[u8]) -> Result<Vec<Span>, AllocError> {
     match name {
         "mls_key_package" => {

@@ -1,9 +1,9 @@
-//! Bytes with a bit turned.
+//! Bytes with one bit flipped.
 use crate::messages::validated_and_decoded;
 use std::alloc::Global;
 use tls_codec_outcome::Outcome;
 
-/// The first bit after whose turn the two calls disagree of these bytes, if there is one.
+/// The first bit that makes the two calls disagree when it is flipped. `None`: they agree at each bit.
 pub fn first_dispute(alloc: Global, name: &str, bytes: &mut [u8]) -> Option<usize> {
     for bit in 0..bytes.len().saturating_mul(8) {
         turn(bytes, bit);

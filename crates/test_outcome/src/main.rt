@@ -18,18 +18,11 @@ mod messages;
 use messages::validated_and_decoded;
 use std::alloc::{AllocError, Global};
 use std::io;
-use std::io::{BufRead, BufReader, BufWriter, Write};
+use test_support::tables::{answer_rows, bytes_of};
 use tls_codec_outcome::{ACCEPTED, Outcome, Span};
 
 fn main(rt: HostRuntime) -> io::Result<()> {
-    let alloc = rt.alloc();
-    let mut out = BufWriter::new(alloc, io::writer(&rt))?;
-    for row in BufReader::new(alloc, rt.reader())?.lines(alloc) {
-        let row = row?;
-        let answer = answer_of(alloc, row.as_str())?;
-        writeln!(out, "{row}\t{answer}")?;
-    }
-    out.flush()
+    answer_rows(rt.alloc(), rt.reader(), io::writer(&rt), answer_of)
 }
 
 // What both calls say of a row, and where they disagree once a bit is turned.
@@ -57,14 +50,6 @@ fn answer_of(alloc: Global, row: &str) -> Result<String, AllocError> {
         }
     }
     Ok(answer)
-}
-
-// The bytes that hex digits stand for; `-` is none.
-fn bytes_of(alloc: Global, digits: &str) -> Option<Vec<u8>> {
-    match digits {
-        "-" => Some(Vec::new(alloc)),
-        _ => hex::decode(alloc, digits).ok(),
-    }
 }
 
 fn text(alloc: Global, said: Outcome) -> Result<String, AllocError> {

@@ -1,12 +1,13 @@
 //! The places that calls from other languages report, as one stored run.
 //!
-//! They are those of the fields of messages of TLS 1.3 and of the elements of lists; and the
-//! wire format of a message of MLS. Each row of standard input has a function's name in the static libraries
-//! and the hex of some bytes, `-` for none, with a tab between. The program prints the row again.
-//! After it come what the call says, as `STATUS TAKEN AT DETAIL`, and what it fills: places as
-//! `OFFSET+SIZE`, a wire format as a number, `-` for nothing. Of `NAME_next` the bytes are those of a list
-//! after its length. It is called until none is left or one is rejected: the row has what the last
-//! call says, and where each element is.
+//! The calls find the fields of messages of TLS 1.3, the elements of lists, and the wire format of a
+//! message of MLS. Each row of standard input has a function's name in the static libraries and the hex of
+//! some bytes, `-` for none, with a tab between. The program prints the row again, what the call says, as
+//! `STATUS TAKEN AT DETAIL`, and what it fills: places as `OFFSET+SIZE`, a wire format as a number, `-` for
+//! nothing.
+//!
+//! A function `NAME_next` takes the bytes after the length of a list. The program calls it until no element
+//! is left or one is rejected. The row has what the last call says, and the place of each element.
 //!
 //! The static libraries export the calls that are made here. Callers in C, Rust and Python are
 //! tested by the same rows.
@@ -18,21 +19,14 @@ mod wire_formats;
 
 use std::alloc::{AllocError, Global};
 use std::io;
-use std::io::{BufRead, BufReader, BufWriter, Write};
+use test_support::tables::{answer_rows, bytes_of};
 use tls_codec_outcome::{Outcome, Span};
 
 // What the last call says, and what is filled.
 type Answer = (Outcome, String);
 
 fn main(rt: HostRuntime) -> io::Result<()> {
-    let alloc = rt.alloc();
-    let mut out = BufWriter::new(alloc, io::writer(&rt))?;
-    for row in BufReader::new(alloc, rt.reader())?.lines(alloc) {
-        let row = row?;
-        let answer = line_of(alloc, row.as_str())?;
-        writeln!(out, "{row}\t{answer}")?;
-    }
-    out.flush()
+    answer_rows(rt.alloc(), rt.reader(), io::writer(&rt), line_of)
 }
 
 fn line_of(alloc: Global, row: &str) -> Result<String, AllocError> {
@@ -67,14 +61,6 @@ fn answer_of(alloc: Global, name: &str, bytes: &[u8]) -> Result<Option<Answer>, 
         return Ok(Some(answer));
     }
     wire_formats::answer_of(alloc, name, bytes)
-}
-
-// The bytes that hex digits stand for; `-` is none.
-fn bytes_of(alloc: Global, digits: &str) -> Option<Vec<u8>> {
-    match digits {
-        "-" => Some(Vec::new(alloc)),
-        _ => hex::decode(alloc, digits).ok(),
-    }
 }
 
 // One more place.

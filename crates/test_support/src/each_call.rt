@@ -57,8 +57,8 @@ pub fn expect_written<T: Serialize>(
     Ok(())
 }
 
-/// The round trip: the bytes are this value's, with others after them too, and each decoder says of a
-/// prefix that the input ended.
+/// Each decoder reads this value from the bytes, and each encoder writes it as these bytes. The decoders of a
+/// prefix leave one more byte, and the exact ones reject it. Bytes that are cut off are `EndOfStream`.
 pub fn expect_encoded_as<T>(alloc: Global, row: &str, value: &T, bytes: &[u8]) -> Result<(), Fail>
 where
     T: Serialize + Deserialize + Validate + Eq + Debug + Clone,
@@ -70,8 +70,8 @@ where
     Ok(())
 }
 
-/// The same of a value with variable-size lengths: of a prefix, a slice's decoder can say that what a
-/// length declares isn't there.
+/// Like [`expect_encoded_as`], for a value with variable-size lengths. If the bytes are cut off, a slice's
+/// decoder may say instead that the content which a length declares isn't there.
 pub fn expect_encoded_as_vl<T>(
     alloc: Global,
     row: &str,
@@ -192,7 +192,7 @@ pub fn expect_rejected_by<T: Deserialize + Validate>(
     expect_not_decoded::<T>(alloc, row, bytes, of_slice, of_source)
 }
 
-/// The same of the decoders alone, for a type that isn't validated.
+/// Like [`expect_rejected_by`], but without validation, for a type that has none.
 pub fn expect_not_decoded<T: Deserialize + DeserializeBytes>(
     alloc: Global,
     row: &str,

@@ -53,7 +53,8 @@ pub fn expect_written_in<C: Size, T: SerializeFor<C>>(
     Ok(())
 }
 
-/// The round trip: the bytes are this value's, with others after them too, and no prefix is.
+/// Each decoder reads this value from the bytes in a context, and each encoder writes it as these bytes. A
+/// slice's decoder leaves one more byte, and the exact ones reject it. Bytes that are cut off are rejected.
 pub fn expect_encoded_as_in<C: Keyed, T>(
     alloc: Global,
     row: &str,
@@ -112,8 +113,7 @@ fn expect_cut_off_in<C: Keyed, T: DeserializeFor<C> + ValidateFor<C>>(
     same_at(row, read, Some(Error::EndOfStream))
 }
 
-/// No encoder writes the value in a context that asks for another one, and a vector has the bytes from
-/// before.
+/// Each encoder rejects the value, since it doesn't fit this context. A vector keeps the bytes that it had.
 pub fn expect_does_not_fit_in<C: Size, T: SerializeFor<C>>(
     alloc: Global,
     row: &str,
@@ -157,7 +157,7 @@ pub fn expect_rejected_in_by<C: Keyed, T: DeserializeFor<C> + ValidateFor<C>>(
     expect_not_decoded_in::<C, T>(alloc, row, context, bytes, of_slice, of_source)
 }
 
-/// The same of the decoders alone, for a type that isn't validated.
+/// Like [`expect_rejected_in_by`], but without validation, for a type that has none.
 pub fn expect_not_decoded_in<C: Size, T: DeserializeFor<C> + DeserializeBytesFor<C>>(
     alloc: Global,
     row: &str,

@@ -1,8 +1,11 @@
-//! What the tests of messages share: what each call makes of a value or of bytes.
+//! What tests share.
 //!
-//! A function here fails unless all is as it should be.
+//! - [`each_call`], [`in_context`]: what each call makes of a value or of bytes. A check fails unless all is as it should be.
+//! - [`rows`]: comparisons that name the row at which they fail.
+//! - [`tables`]: programs that answer a table of inputs.
 #![tactic(auto)]
 
 pub mod each_call;
 pub mod in_context;
 pub mod rows;
+pub mod tables;

@@ -15,7 +15,7 @@ pub fn same<T: PartialEq + Debug + Drop>(found: T, expected: T) -> Result<(), Fa
     Ok(())
 }
 
-/// The same at one of several rows.
+/// Like [`same`], at one of several rows, which a failure names.
 pub fn same_at<T: PartialEq + Debug + Drop>(row: &str, found: T, expected: T) -> Result<(), Fail>
     ensures { OnOk result (IsTrue (T.eq found expected)) }
 {

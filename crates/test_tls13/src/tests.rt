@@ -8,4 +8,5 @@ mod inner;
 mod names;
 mod records;
 mod sending;
+mod streams;
 mod views;

@@ -61,6 +61,7 @@ fn made(rt: &impl Abort, alloc: Global, text: &str) -> Plan {
         Ok(plan) => plan,
         Err(Trouble::Refused(refusal)) => panic!(rt; "{refusal}"),
         Err(Trouble::Memory) => panic!(rt; "out of memory"),
+        Err(Trouble::Inconsistent) => panic!(rt; "a fault of tlsgen"),
     }
 }
 
@@ -69,6 +70,7 @@ fn refusal(rt: &impl Abort, alloc: Global, text: &str) -> Refusal {
         Ok(_) => panic!(rt; "not refused: {text}"),
         Err(Trouble::Refused(refusal)) => refusal,
         Err(Trouble::Memory) => panic!(rt; "out of memory"),
+        Err(Trouble::Inconsistent) => panic!(rt; "a fault of tlsgen"),
     }
 }
 

@@ -4,7 +4,7 @@
 //! Each type has a line, and references to it have one. The functions do nothing: each line is a
 //! clause, and so is proved. What an `impl` says of its type has to be what the table says. The
 //! formats are explained in docs/DEFINITIONS.md, and a rejected slice or source in
-//! docs/REFUSALS.md.
+//! docs/ERRORS.md.
 ghost use Rattle.std.specs.Prelude.{◌≡◌, ◌^◌, string_bytes};
 ghost use Rattle.tls_codec_wire.specs.Numbers.{NumberNotRead};
 ghost use Rattle.tls_codec_wire.specs.Transfer.{ReadRefused};

@@ -48,6 +48,8 @@ impl<F: LengthField> Deserialize for TlsByteVec<F> {
     ghost names = { OpaqueSourceRefused F.field };
 
     /// `EndOfStream`: there is no whole length, or fewer bytes come than it declares.
+    /// `InvalidVectorLength`: `F` rejects the length, as one wider than needed or out of its bounds.
+    /// Every other error is the source's, or `OutOfMemory`.
     #[inline(always)]
     fn tls_deserialize<R: Source>(alloc: Global, src: &mut R) -> Result<TlsByteVec<F>, Error> {
         let read = opaque::read::<F, R>(alloc, src)?;
@@ -59,7 +61,9 @@ impl<F: LengthField> DeserializeBytes for TlsByteVec<F> {
     ghost names = { OpaqueCopyRefused F.field };
 
     /// `EndOfStream`: there is no whole length, or fewer bytes come after a length of one to four
-    /// bytes than it declares.
+    /// bytes than it declares; after another length `DecodingError("declared content is not there")`.
+    /// `InvalidVectorLength`: `F` rejects the length, as one wider than needed or out of its bounds.
+    /// `OutOfMemory`: allocation failed.
     #[inline(always)]
     fn tls_deserialize_bytes(alloc: Global, whole: &[u8]) -> Result<(TlsByteVec<F>, &[u8]), Error> {
         let (copy, rest) = opaque::split_copied::<F>(alloc, whole)?;

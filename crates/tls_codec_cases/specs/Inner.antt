@@ -6,7 +6,7 @@ use Rattle.tls_codec_wire.specs.declared.error.Error.TheVariants.{EncodingError,
 use Rattle.tls_codec_grammar.specs.Decoding.{LeavesBytes}
 use Rattle.tls_codec_grammar.specs.Errors.{Says}
 use Rattle.tls_codec_grammar.specs.Format.{Format, fields_format}
-use Rattle.tls_codec_grammar.specs.Grammar.{Grammar}
+use Rattle.tls_codec_grammar.specs.Grammar.{Grammar, Reading}
 use Rattle.tls_codec_grammar.specs.Inside.{bytes_to_end_format}
 use Rattle.tls_codec_grammar.specs.Shortest.{HasNoSpelling}
 use Rattle.tls_codec_grammar.specs.Tree.{Join, Number, Tree, number_trees}
@@ -59,7 +59,16 @@ pub record RefusesType (spells : Grammar) (names : List ℕ → Error → Type 0
   pub ends : EndsIn x content kind padding
   pub refused : ((e ≡ TrailingData) × LeavesBytes spells kind) ⊎ names kind e
 
--- each byte is zero; or the type is refused; or there was no memory for the content
+-- x is a content, the byte of a type, and zeros
+pub record HasType (spells : Grammar) (x : List ℕ) : Type 0 where
+  pub content : List ℕ
+  pub kind : List ℕ
+  pub padding : ℕ
+  pub value : Tree
+  pub ends : EndsIn x content kind padding
+  pub spelled : spells Reading kind value
+
+-- each byte is zero; or the type is refused; or it is read, and there was no memory for the content
 abbrev pub RefusesInner : Grammar → (List ℕ → Error → Type 0) → List ℕ → Error → Type 0
 RefusesInner spells names x e = (Says (codes "type is not there") e × All (λ b. b ≡ 0) x)
-    ⊎ (RefusesType spells names x e ⊎ (e ≡ OutOfMemory))
+    ⊎ (RefusesType spells names x e ⊎ ((e ≡ OutOfMemory) × HasType spells x))

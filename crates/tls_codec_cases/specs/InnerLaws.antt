@@ -1,16 +1,15 @@
 -- The laws of bytes with their type after them: the type is the last byte that isn't zero.
-use Rattle.std.proofs.Common.{◌≡◌, ◌≢◌, ℕ, ◌+◌, List, [], ◌∷◌, ◌++◌, length, inl, inr, refl, sym, ap, subst, ◌∙◌, arith, length-append}
-use Rattle.std.specs.Prelude.{◌⊎◌, All}
+use Rattle.std.proofs.Common.{◌≡◌, ◌≢◌, ℕ, List, [], ◌∷◌, ◌++◌, length, inl, inr, refl, sym, ap, subst, ◌∙◌, arith, length-append}
+use Rattle.std.specs.Prelude.{All}
 use Rattle.std.proofs.lemmas.List.{append_cancel_left}
 use Rattle.std.proofs.lemmas.List.Elements.{All-head, All-tail}
 use Rattle.tls_codec_wire.specs.declared.error.Error.{Error}
 use Rattle.tls_codec_wire.specs.declared.error.Error.TheVariants.{OutOfMemory}
 use Rattle.tls_codec_grammar.specs.Tree.{Tree, Number, Join, number_trees}
-use Rattle.tls_codec_grammar.specs.Grammar.{Concat, Reading, Writing, content, fields, number}
+use Rattle.tls_codec_grammar.specs.Grammar.{Reading, Writing}
 use Rattle.tls_codec_grammar.specs.Shortest.{HasNoSpelling}
-use Rattle.tls_codec_grammar.specs.Announced.{capped, fields_length}
-use Rattle.tls_codec_grammar.specs.Format.{Format, fields_format, fields_refuses}
-use Rattle.tls_codec_grammar.specs.Inside.{bytes_to_end_format, zeros}
+use Rattle.tls_codec_grammar.specs.Announced.{capped}
+use Rattle.tls_codec_grammar.specs.Format.{Format}
 use Rattle.tls_codec_grammar.specs.Lawful.{MeetsLaws, MeetsLawsInside}
 use Rattle.tls_codec_grammar.specs.laws.RowLaws.{row_alone, row_map}
 use Rattle.tls_codec_grammar.specs.laws.InsideLaws.{bytes_to_end_meet}

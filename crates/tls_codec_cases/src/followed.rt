@@ -1,6 +1,6 @@
 //! [`Followed`], a value and the bytes after it, to the end of what is read.
 ghost use Rattle.std.specs.Prelude.{◌≡◌, ◌⊎◌, IfErr};
-ghost use Rattle.tls_codec_wire.specs.declared.error.Error.TheVariants.{OutOfMemory};
+ghost use Rattle.tls_codec_grammar.specs.Decoding.{NoMemoryFor};
 ghost use Rattle.tls_codec_grammar.specs.Encoding.{AppendsForm};
 ghost use Rattle.tls_codec_grammar.specs.Inside.{ReadsInside, bytes_to_end_format};
 ghost use Rattle.tls_codec_grammar.specs.Tree.{number_trees};
@@ -33,7 +33,8 @@ impl<T> Followed<T> {
         T: DeserializeBytes,
         ensures reads { ReadsInside (followed_format T.format) (followed_plain T.plain) bytes.now
             result }
-        ensures named { IfErr result (λ e. T.names bytes.now e ⊎ (e ≡ OutOfMemory)) }
+        ensures named { IfErr result (λ e. T.names bytes.now e
+            ⊎ NoMemoryFor T.format.spells bytes.now e) }
     {
         let (content, rest) = T::tls_deserialize_bytes(alloc, bytes)?;
         let rest = copied(alloc, rest)?;

@@ -69,8 +69,8 @@ impl<T> InnerPlaintext<T> {
     /// the vector has the bytes from before.
     ///
     /// `EncodingError("type is not a byte other than zero")`: the type has another encoding.
-    /// `InvalidVectorLength`: the encoding doesn't fit into a vector. Every other error is the
-    /// type's.
+    /// `InvalidVectorLength`: the zeros don't fit into a vector. `OutOfMemory`: allocation failed for
+    /// the content or for them. Every other error is the type's.
     pub fn tls_serialize_into(&self, out: &mut Vec<u8>) -> Result<usize, Error>
     where
         T: Serialize,

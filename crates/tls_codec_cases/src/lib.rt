@@ -39,5 +39,5 @@ pub use inner::InnerPlaintext;
 pub use other::Other;
 pub use padded::Padded;
 pub use tag::Tag;
-pub use tagged::Tagged;
+pub use tagged::{Tagged, tags_are_valid};
 pub use written_as::{EncoderError, append_as, append_as_for, write_as, write_as_for};

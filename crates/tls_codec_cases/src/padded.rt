@@ -1,10 +1,9 @@
 //! [`Padded`], a value and zeros after it, to the end of what is read.
-ghost use Rattle.std.specs.Prelude.{◌≡◌, ◌↔◌, ◌⊎◌, All, IfErr, IsTrue, codes};
+ghost use Rattle.std.specs.Prelude.{◌≡◌, ◌↔◌, All, IfErr, IsTrue};
 ghost use Rattle.tls_codec_grammar.specs.Encoding.{AppendsForm};
-ghost use Rattle.tls_codec_grammar.specs.Errors.{Says};
 ghost use Rattle.tls_codec_grammar.specs.Inside.{ReadsInside, zeros_format};
 ghost use Rattle.tls_codec_grammar.specs.Tree.{Number};
-ghost use Rattle.tls_codec_cases.specs.Padded.{padded_format, padded_plain};
+ghost use Rattle.tls_codec_cases.specs.Padded.{RefusesPadded, padded_format, padded_plain};
 
 use std::alloc::Global;
 use tls_codec_base::{DeserializeBytesFor, SerializeFor, Size, SizeFor};
@@ -37,8 +36,8 @@ impl<T> Padded<T> {
         T: DeserializeBytesFor<C>,
         ensures reads { ReadsInside (padded_format (T.format_for (C.plain context.now)))
             (padded_plain T.plain) bytes.now result }
-        ensures named { IfErr result (λ e. T.names (C.plain context.now) bytes.now e
-            ⊎ Says (codes "padding is not zeros") e) }
+        ensures named { IfErr result (RefusesPadded (T.format_for (C.plain context.now)).spells
+            (T.names (C.plain context.now)) bytes.now) }
     {
         let (content, rest) = T::tls_deserialize_bytes_for(context, alloc, bytes)?;
         if !are_zeros(rest) {
@@ -62,8 +61,8 @@ impl<T> Padded<T> {
     /// Appends the value's encoding in this context to a vector, and returns how many bytes that
     /// is. After an error the vector has the bytes from before.
     ///
-    /// `InvalidVectorLength`: the encoding doesn't fit into a vector. Every other error is the
-    /// content's.
+    /// `InvalidVectorLength`: the zeros don't fit into a vector. `OutOfMemory`: allocation failed for
+    /// them. Every other error is the content's.
     pub fn tls_serialize_into_for<C: Size>(
         &self,
         context: &C,
@@ -93,15 +92,15 @@ fn are_zeros(bytes: &[u8]) -> bool
     bytes.iter().all(|&byte| byte == 0)
 }
 
-/// Appends as many zeros. `InvalidVectorLength`: more than a vector can hold.
+/// Appends as many zeros. `InvalidVectorLength`: the vector would pass `isize::MAX` bytes.
+/// `OutOfMemory`: allocation failed.
 pub(crate) fn append_zeros(count: usize, out: &mut Vec<u8>) -> Result<usize, Error>
     ensures appends { AppendsForm zeros_format (Number count) out.old.items out.new.items result }
 {
-    match out.len().checked_add(count) {
-        Some(length) => {
-            out.resize(length, 0)?;
-            Ok(count)
-        }
-        None => Err(Error::InvalidVectorLength),
+    if count > isize::MAX as usize - out.len() {
+        return Err(Error::InvalidVectorLength);
     }
+    let length = out.len() + count;
+    out.resize(length, 0)?;
+    Ok(count)
 }

@@ -17,9 +17,9 @@ use tls_codec_wire::{Error, Sink, Source};
 #[derive(Drop)]
 pub struct Tagged<T, C>(pub C, pub PhantomData<T>);
 
-// The cases have tags of their own, which a `T` holds.
+/// Whether the cases have tags of their own, which a `T` holds (RFC 8446, section 3.8).
 #[inline(always)]
-fn tags_are_valid<T: Tag, C: Cases>() -> bool
+pub fn tags_are_valid<T: Tag, C: Cases>() -> bool
     ensures { result ≡ (C.distinct && C.within T.most) }
 {
     C::are_distinct() && C::are_within(T::greatest())

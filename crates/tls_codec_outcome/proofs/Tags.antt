@@ -5,7 +5,7 @@ use Rattle.tls_codec_grammar.specs.Grammar.{number}
 use Rattle.tls_codec_grammar.specs.Decoding.{Begins}
 use Rattle.tls_codec_base.proofs.BothPaths.{one_front}
 use Rattle.tls_codec_outcome.specs.Fields.{BeginsAt, IsField, IsTagAt}
-use Rattle.tls_codec_outcome.specs.Ends.{leaves_behind}
+use Rattle.tls_codec_outcome.specs.Ends.{leaves_after}
 
 module _ (first : Format) (laws : MeetsLaws first) (variants : Variants) (x : List ℕ) (size tag : ℕ) (p : IsField first x 0 size) (told : BeginsAt (number_format 2) x size → IsTagAt 2 x size tag) where
   abbrev whole : Format
@@ -22,7 +22,7 @@ module _ (first : Format) (laws : MeetsLaws first) (variants : Variants) (x : Li
         whole = b.whole ∙ ap (λ (u : List ℕ). u ++ rest) q.whole ∙ append_assoc q.front q.rest rest;
         spelled = q.first;
       } in
-      let left = leaves_behind first x 0 size p in
+      let left = leaves_after first x 0 size p in
       let place : 0 + size ≡ size = omega arith in
       let same : middle ≡ drop size x =
       (one_front first.spells x first.announced laws.spelled left.value v (drop (0 + size) x) middle left.begins here).1 ∙ ap (λ (n : ℕ). drop n x) place in

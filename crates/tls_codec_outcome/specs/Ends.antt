@@ -20,8 +20,8 @@ pub splits_at : (x : List ℕ) (from size : ℕ) → drop from x ≡ bytes_at fr
 splits_at x from size = sym (take-append-drop size (drop from x)) ∙ ap (λ (u : List ℕ). bytes_at from size x ++ u) (drop-drop size from x)
 
 -- the bytes at a place begin with a field, and what is after it is left
-pub leaves_behind : (f : Format) (x : List ℕ) (from size : ℕ) → IsField f x from size → BeginsLeaving f.spells (drop from x) (drop (from + size) x)
-leaves_behind f x from size p = record {
+pub leaves_after : (f : Format) (x : List ℕ) (from size : ℕ) → IsField f x from size → BeginsLeaving f.spells (drop from x) (drop (from + size) x)
+leaves_after f x from size p = record {
   value = p.spelled.0;
   begins = record {
     front = bytes_at from size x;
@@ -30,11 +30,11 @@ leaves_behind f x from size p = record {
   };
 }
 
-field_ends_behind : (f : Format) (x : List ℕ) (from size : ℕ) → IsField f x from size → EndsAt f x from (from + size)
-field_ends_behind f x from size p = record { within = p.within; leaves = leaves_behind f x from size p }
+field_ends_after : (f : Format) (x : List ℕ) (from size : ℕ) → IsField f x from size → EndsAt f x from (from + size)
+field_ends_after f x from size p = record { within = p.within; leaves = leaves_after f x from size p }
 
 pub field_ends : (f : Format) (x : List ℕ) (from : ℕ) (span : Span) → IsFieldFrom f x from span → EndsAt f x from (span_end span)
-field_ends f x from span p = subst (λ (n : ℕ). EndsAt f x from (n + span.size)) (sym p.0) (field_ends_behind f x from span.size p.1)
+field_ends f x from span p = subst (λ (n : ℕ). EndsAt f x from (n + span.size)) (sym p.0) (field_ends_after f x from span.size p.1)
 
 -- bytes after a length are a field, with the length
 content_field : (field : Field) (x : List ℕ) (from offset size : ℕ) → IsContent field x from offset size → IsField (counted_bytes_format field) x from (offset + size - from)
@@ -47,7 +47,7 @@ pub content_ends : (field : Field) (x : List ℕ) (from : ℕ) (span : Span) →
 content_ends field x from span p =
     let end : from + (span.offset + span.size - from) ≡ span.offset + span.size = omega (arith, p.after) in
     subst (λ (n : ℕ). EndsAt (counted_bytes_format field) x from n) end
-    (field_ends_behind (counted_bytes_format field) x from (span.offset + span.size - from) (content_field field x from span.offset span.size p))
+    (field_ends_after (counted_bytes_format field) x from (span.offset + span.size - from) (content_field field x from span.offset span.size p))
 
 -- ---- several
 

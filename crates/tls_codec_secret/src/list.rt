@@ -147,7 +147,8 @@ impl<F, T: Zeroize> SecretTlsVec<F, T> {
         self.vec.pop()
     }
 
-    /// Takes the element at a place. It isn't cleared. Those after it move one place to the front.
+    /// Takes the element at a place, which is below [`len`](SecretTlsVec::len). It isn't cleared. Those
+    /// after it move one place to the front.
     pub fn remove(&mut self, index: usize) -> T
         requires { index < length (elements_of self.old) }
         ensures value { slice_get (elements_of self.old) index ≡ Some result }

@@ -70,9 +70,9 @@ impl<X: Keyed, T: ValidateFor<X>, U: ValidateFor<X>> ValidateFor<X> for (T, U) {
         key: &X::Key,
         bytes: &'a [u8],
     ) -> Result<&'a [u8], Rejected<'a>> {
-        let first = T::tls_validate_prefix_for(key, bytes)?;
-        let second = U::tls_validate_prefix_for(key, first)?;
-        Ok(second)
+        let after_first = T::tls_validate_prefix_for(key, bytes)?;
+        let after_second = U::tls_validate_prefix_for(key, after_first)?;
+        Ok(after_second)
     }
 }
 
@@ -86,10 +86,10 @@ impl<X: Keyed, T: ValidateFor<X>, U: ValidateFor<X>, V: ValidateFor<X>> Validate
         key: &X::Key,
         bytes: &'a [u8],
     ) -> Result<&'a [u8], Rejected<'a>> {
-        let first = T::tls_validate_prefix_for(key, bytes)?;
-        let second = U::tls_validate_prefix_for(key, first)?;
-        let third = V::tls_validate_prefix_for(key, second)?;
-        Ok(third)
+        let after_first = T::tls_validate_prefix_for(key, bytes)?;
+        let after_second = U::tls_validate_prefix_for(key, after_first)?;
+        let after_third = V::tls_validate_prefix_for(key, after_second)?;
+        Ok(after_third)
     }
 }
 

@@ -9,7 +9,7 @@ ghost use Rattle.tls_codec_validate.specs.Places.{RejectedAt, counted_list_place
 ghost use Rattle.tls_codec_validate.specs.Validated.{BeginsLeaving, Validates};
 
 use crate::keys::Keyed;
-use crate::rejected::Rejected;
+use crate::rejected::{Rejected, or_rejected};
 use crate::traits::Validate;
 use crate::validate_for::ValidateFor;
 use tls_codec_base::rejections::{NO_BYTES, NOT_FILLED};
@@ -38,10 +38,7 @@ pub(crate) fn skip_list_for<'a, X: Keyed, F: LengthField, T: ValidateFor<X>>(
         (λ c. counted_list_names F.field (T.format_for c) (T.names c))
         (λ c. counted_list_places F.field (T.format_for c) (T.places c)) bytes.now result }
 {
-    let (length, rest) = match F::split_length(bytes) {
-        Ok(found) => found,
-        Err(error) => return Err(Rejected { error, rest: bytes }),
-    };
+    let (length, rest) = or_rejected(F::split_length(bytes), bytes)?;
     let behind = skip_elements::<X, T>(key, rest, length)?;
     Ok(behind)
 }

@@ -6,7 +6,7 @@ ghost use Rattle.tls_codec_validate.specs.EnclosedPlaces.{enclosed_places};
 ghost use Rattle.tls_codec_validate.specs.Places.{RejectedAt};
 ghost use Rattle.tls_codec_validate.specs.Validated.{Validates};
 
-use crate::rejected::Rejected;
+use crate::rejected::{Rejected, or_rejected};
 use crate::traits::Validate;
 use tls_codec_base::LengthField;
 use tls_codec_cases::Enclosed;
@@ -27,10 +27,7 @@ fn skip_enclosed<F: LengthField, T: Validate>(bytes: &[u8]) -> Result<&[u8], Rej
         (RejectedAt (enclosed_names F.field T.format T.names)
         (enclosed_places F.field T.format T.places) bytes.now) }
 {
-    let (length, behind) = match F::split_length(bytes) {
-        Ok(found) => found,
-        Err(error) => return Err(Rejected { error, rest: bytes }),
-    };
+    let (length, behind) = or_rejected(F::split_length(bytes), bytes)?;
     if behind.len() < length {
         return Err(Rejected {
             error: F::cut_off(),

@@ -2,7 +2,7 @@
 ghost use Rattle.tls_codec_validate.specs.Places.{here};
 
 use crate::digits::skip;
-use crate::rejected::Rejected;
+use crate::rejected::{Rejected, or_rejected};
 use crate::traits::Validate;
 use tls_codec_base::DeserializeBytes;
 use tls_codec_wire::quic::split_varint;
@@ -96,9 +96,7 @@ impl Validate for TlsVarInt {
     ghost places = { here ⟦<TlsVarInt as DeserializeBytes>⟧.names };
 
     fn tls_validate_prefix(bytes: &[u8]) -> Result<&[u8], Rejected<'_>> {
-        match split_varint(bytes) {
-            Ok((_number, rest)) => Ok(rest),
-            Err(error) => Err(Rejected { error, rest: bytes }),
-        }
+        let (_, rest) = or_rejected(split_varint(bytes), bytes)?;
+        Ok(rest)
     }
 }

@@ -35,9 +35,9 @@ impl<T: Validate, U: Validate> Validate for (T, U) {
 
     #[inline(always)]
     fn tls_validate_prefix(bytes: &[u8]) -> Result<&[u8], Rejected<'_>> {
-        let first = T::tls_validate_prefix(bytes)?;
-        let second = U::tls_validate_prefix(first)?;
-        Ok(second)
+        let after_first = T::tls_validate_prefix(bytes)?;
+        let after_second = U::tls_validate_prefix(after_first)?;
+        Ok(after_second)
     }
 
     #[inline(always)]
@@ -52,10 +52,10 @@ impl<T: Validate, U: Validate, V: Validate> Validate for (T, U, V) {
 
     #[inline(always)]
     fn tls_validate_prefix(bytes: &[u8]) -> Result<&[u8], Rejected<'_>> {
-        let first = T::tls_validate_prefix(bytes)?;
-        let second = U::tls_validate_prefix(first)?;
-        let third = V::tls_validate_prefix(second)?;
-        Ok(third)
+        let after_first = T::tls_validate_prefix(bytes)?;
+        let after_second = U::tls_validate_prefix(after_first)?;
+        let after_third = V::tls_validate_prefix(after_second)?;
+        Ok(after_third)
     }
 
     #[inline(always)]

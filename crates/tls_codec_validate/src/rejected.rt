@@ -1,5 +1,5 @@
 //! [`Rejected`]: why bytes are rejected, and which of them.
-ghost use Rattle.std.specs.Prelude.{◌≡◌, ◌-◌, length};
+ghost use Rattle.std.specs.Prelude.{◌≡◌, ◌-◌, Err, IfErr, IfOk, Ok, length};
 
 use tls_codec_wire::Error;
 
@@ -16,7 +16,7 @@ pub struct Rejected<'a> {
     /// An error that the slice decoder names of the bytes.
     pub error: Error,
     /// The bytes from the first one of the rejected field on: an integer, a vector with its length, the tag of an enum or
-    /// of an option. A vector whose elements are rejected is so in one of them. Of `TrailingData` the bytes that are left.
+    /// of an option. If an element is rejected, the field is in that element. Of `TrailingData` the bytes that are left.
     pub rest: &'a [u8],
 }
 
@@ -34,5 +34,17 @@ impl From<Rejected<'_>> for Error {
 
     fn from(rejected: Rejected<'_>) -> Error {
         rejected.error
+    }
+}
+
+/// What is found in the bytes, or that their first field is rejected.
+#[inline(always)]
+pub(crate) fn or_rejected<T>(found: Result<T, Error>, bytes: &[u8]) -> Result<T, Rejected<'_>>
+    ensures ok { IfOk result (λ value. found ≡ Ok value) }
+    ensures err { IfErr result (λ r. (found ≡ Err r.error) × (r.rest.now ≡ bytes.now)) }
+{
+    match found {
+        Ok(value) => Ok(value),
+        Err(error) => Err(Rejected { error, rest: bytes }),
     }
 }

@@ -1,5 +1,5 @@
 //! [`Tagged`], a tag, and after it what its case has (RFC 8446, section 3.8).
-ghost use Rattle.std.specs.Prelude.{◌≡◌, ◌&&◌, IfErr};
+ghost use Rattle.std.specs.Prelude.{◌&&◌, IfErr};
 ghost use Rattle.tls_codec_base.specs.Meanings.{too_few};
 ghost use Rattle.tls_codec_validate.specs.Places.{RejectedAt, here};
 ghost use Rattle.tls_codec_validate.specs.TaggedPlaces.{choice_places};
@@ -10,7 +10,7 @@ use crate::rejected::Rejected;
 use crate::tags::{split_u8, split_u16};
 use crate::traits::Validate;
 use tls_codec_base::unknown_value;
-use tls_codec_cases::{Tag, Tagged};
+use tls_codec_cases::{Tag, Tagged, tags_are_valid};
 
 /// A tag that bytes begin with, found without an allocator.
 pub trait FindTag: Tag {
@@ -54,12 +54,4 @@ impl<T: FindTag, C: ValidateCases> Validate for Tagged<T, C> {
         let behind = C::validate_parts(tag, whole, rest)?;
         Ok(behind)
     }
-}
-
-// The cases have tags of their own, which a `T` holds.
-#[inline(always)]
-fn tags_are_valid<T: Tag, C: ValidateCases>() -> bool
-    ensures { result ≡ (C.distinct && C.within T.most) }
-{
-    C::are_distinct() && C::are_within(T::greatest())
 }

@@ -4,7 +4,7 @@ ghost use Rattle.tls_codec_base.specs.Meanings.{too_few};
 ghost use Rattle.tls_codec_validate.specs.Places.{RejectedAt, here};
 ghost use Rattle.tls_codec_validate.specs.Validated.{FindsTag};
 
-use crate::rejected::Rejected;
+use crate::rejected::{Rejected, or_rejected};
 use tls_codec_grammar::digits::split_digits;
 
 /// A tag of one byte, and what comes after it.
@@ -15,10 +15,7 @@ pub fn split_u8(bytes: &[u8]) -> Result<(u8, &[u8]), Rejected<'_>>
     ensures finds { FindsTag 1 bytes.now result }
     ensures rejected { IfErr result (RejectedAt (too_few 1) (here (too_few 1)) bytes.now) }
 {
-    let (digits, rest) = match split_digits(bytes) {
-        Ok(found) => found,
-        Err(error) => return Err(Rejected { error, rest: bytes }),
-    };
+    let (digits, rest) = or_rejected(split_digits(bytes), bytes)?;
     Ok((u8::from_be_bytes(digits), rest))
 }
 
@@ -30,10 +27,7 @@ pub fn split_u16(bytes: &[u8]) -> Result<(u16, &[u8]), Rejected<'_>>
     ensures finds { FindsTag 2 bytes.now result }
     ensures rejected { IfErr result (RejectedAt (too_few 2) (here (too_few 2)) bytes.now) }
 {
-    let (digits, rest) = match split_digits(bytes) {
-        Ok(found) => found,
-        Err(error) => return Err(Rejected { error, rest: bytes }),
-    };
+    let (digits, rest) = or_rejected(split_digits(bytes), bytes)?;
     Ok((u16::from_be_bytes(digits), rest))
 }
 
@@ -45,10 +39,7 @@ pub fn split_u32(bytes: &[u8]) -> Result<(u32, &[u8]), Rejected<'_>>
     ensures finds { FindsTag 4 bytes.now result }
     ensures rejected { IfErr result (RejectedAt (too_few 4) (here (too_few 4)) bytes.now) }
 {
-    let (digits, rest) = match split_digits(bytes) {
-        Ok(found) => found,
-        Err(error) => return Err(Rejected { error, rest: bytes }),
-    };
+    let (digits, rest) = or_rejected(split_digits(bytes), bytes)?;
     Ok((u32::from_be_bytes(digits), rest))
 }
 
@@ -60,9 +51,6 @@ pub fn split_u64(bytes: &[u8]) -> Result<(u64, &[u8]), Rejected<'_>>
     ensures finds { FindsTag 8 bytes.now result }
     ensures rejected { IfErr result (RejectedAt (too_few 8) (here (too_few 8)) bytes.now) }
 {
-    let (digits, rest) = match split_digits(bytes) {
-        Ok(found) => found,
-        Err(error) => return Err(Rejected { error, rest: bytes }),
-    };
+    let (digits, rest) = or_rejected(split_digits(bytes), bytes)?;
     Ok((u64::from_be_bytes(digits), rest))
 }

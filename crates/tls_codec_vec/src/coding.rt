@@ -42,6 +42,7 @@ impl<F: LengthField, T: Deserialize> Deserialize for TlsVec<F, T> {
     ghost names = { counted_list_source_names F.field T.format T.names };
 
     /// `EndOfStream`: there is no whole length, or an element passes the end that it declares.
+    /// `InvalidVectorLength`: `F` rejects the length, as one wider than needed or out of its bounds.
     /// `DecodingError("vector element consumed 0 bytes")`: an element takes no byte. Every other
     /// error is an element's, the source's, or `OutOfMemory`.
     fn tls_deserialize<R: Source>(alloc: Global, bytes: &mut R) -> Result<TlsVec<F, T>, Error> {
@@ -54,6 +55,7 @@ impl<F: LengthField, T: DeserializeBytes> DeserializeBytes for TlsVec<F, T> {
     ghost names = { counted_list_names F.field T.format T.names };
 
     /// `EndOfStream`: there is no whole length.
+    /// `InvalidVectorLength`: `F` rejects the length, as one wider than needed or out of its bounds.
     /// `DecodingError("elements do not fill the declared length")`: an element passes the end that
     /// it declares. `DecodingError("vector element consumed 0 bytes")`: an element takes no byte.
     /// Every other error is an element's, or `OutOfMemory`.

@@ -176,6 +176,7 @@ impl<N> Deserialize for SecretVarBytes<N> {
 
     /// `EndOfStream`: there is no whole length, or fewer bytes come than it declares.
     /// `InvalidVectorLength`: the length has more bytes than it needs, or more than 30 bits.
+    /// Every other error is the source's, or `OutOfMemory`.
     fn tls_deserialize<R: Source>(alloc: Global, src: &mut R) -> Result<SecretVarBytes<N>, Error> {
         let read = VarBytes::tls_deserialize(alloc, src)?;
         Ok(SecretVarBytes(read))
@@ -187,7 +188,7 @@ impl<N> DeserializeBytes for SecretVarBytes<N> {
 
     /// `InvalidVectorLength`: the length has more bytes than it needs, or more than 30 bits.
     /// `EndOfStream`: there is no whole length. `DecodingError("declared content is not there")`:
-    /// fewer bytes come after it than it declares.
+    /// fewer bytes come after it than it declares. `OutOfMemory`: allocation failed.
     fn tls_deserialize_bytes(
         alloc: Global,
         whole: &[u8],

@@ -197,6 +197,7 @@ impl<N> Deserialize for VarBytes<N> {
 
     /// `EndOfStream`: there is no whole length, or fewer bytes come than it declares.
     /// `InvalidVectorLength`: the length has more bytes than it needs, or more than 30 bits.
+    /// Every other error is the source's, or `OutOfMemory`.
     #[inline(always)]
     fn tls_deserialize<R: Source>(alloc: Global, src: &mut R) -> Result<VarBytes<N>, Error> {
         let read = opaque::read::<TlsVarInt, R>(alloc, src)?;
@@ -209,7 +210,7 @@ impl<N> DeserializeBytes for VarBytes<N> {
 
     /// `InvalidVectorLength`: the length has more bytes than it needs, or more than 30 bits.
     /// `EndOfStream`: there is no whole length. `DecodingError("declared content is not there")`:
-    /// fewer bytes come after it than it declares.
+    /// fewer bytes come after it than it declares. `OutOfMemory`: allocation failed.
     #[inline(always)]
     fn tls_deserialize_bytes(alloc: Global, whole: &[u8]) -> Result<(VarBytes<N>, &[u8]), Error> {
         let (copy, rest) = opaque::split_copied::<TlsVarInt>(alloc, whole)?;

@@ -13,8 +13,8 @@ use Rattle.tls_codec_cases.specs.Enclosed.{fixed_enclosed_format}
 use Rattle.tls_presentation.specs.Definition.{Field, Label}
 use Rattle.tls_presentation.specs.Rows.{row, borrowed_row, case_row}
 use Rattle.tls_presentation.specs.Tags.{Tag, number_of, selected}
-use Rattle.tls_presentation.specs.Pieces.{Piece, Site, fields_for, length_width, formats_for, filled, is_filled, behind_tag, tag_in, tag_on, fields_on, pieces}
-use Rattle.tls_presentation.specs.Holding.{decides, context_in, formats_in, formats_on, behind_row, holding, struct_format}
+use Rattle.tls_presentation.specs.Pieces.{Piece, Site, fields_for, length_width, formats_for, filled, is_filled, after_tag, tag_in, tag_on, fields_on, pieces}
+use Rattle.tls_presentation.specs.Holding.{decides, context_in, formats_in, formats_on, after_row, holding, struct_format}
 use Rattle.tls_presentation.specs.Meaning.{Text, struct_in}
 use Rattle.tls_presentation.specs.Says.{Member, found, in_row, formats_said, trees_said, says, field_trees, inside_formats, case_row_says, case_says, choice_says, number_says}
 use Rattle.tls_presentation.proofs.Flat.{SameLength, flip, compose, rows_append, row_snoc, row_nil, tree_row, tree_borrowed_row, tree_case_row, row_flat, borrowed_row_flat, case_row_flat, concat_iff, concat_end, counted_iff, same_iff}
@@ -37,7 +37,7 @@ holding_tree before members (p ∷ ps) = elim (decides p ps) as (λ b. Tree) [
   | false ↦ holding_tree (before ++ found members p.name ∷ []) members ps
 ]
 
-holder_flat : (f : Format) (rest : Tree → Format) (t : Tree) (gs : List Format) (us : List Tree) → ((d : Direction) (s : List ℕ) → (rest t).spells d s (tree_row us) ↔ in_row gs us d s) → (fs : List Format) (ts : List Tree) → SameLength fs ts → (d : Direction) (b : List ℕ) → (behind_row fs (then_format f rest)).spells d b (behind_tree ts (Join t (tree_row us))) ↔ in_row (fs ++ f ∷ gs) (ts ++ t ∷ us) d b
+holder_flat : (f : Format) (rest : Tree → Format) (t : Tree) (gs : List Format) (us : List Tree) → ((d : Direction) (s : List ℕ) → (rest t).spells d s (tree_row us) ↔ in_row gs us d s) → (fs : List Format) (ts : List Tree) → SameLength fs ts → (d : Direction) (b : List ℕ) → (after_row fs (then_format f rest)).spells d b (behind_tree ts (Join t (tree_row us))) ↔ in_row (fs ++ f ∷ gs) (ts ++ t ∷ us) d b
 holder_flat f rest t gs us h [] [] l d b = concat_iff b (λ s. same_iff) (λ s. h d s)
 holder_flat f rest t gs us h [] (u ∷ ts) l d b = absurd l
 holder_flat f rest t gs us h (g ∷ fs) [] l d b = absurd l
@@ -57,7 +57,7 @@ snoc_same (g ∷ fs) [] f t l = absurd l
 snoc_same (g ∷ fs) (u ∷ ts) f t l = snoc_same fs ts f t l
 
 -- by whether the first piece decides others
-holding_by : (x : Bool) (c : Tree) (members : List Member) (p : Piece) (ps : List Piece) → HoldingFlat c members ps → (fs : List Format) (ts : List Tree) → SameLength fs ts → (d : Direction) (b : List ℕ) → (elim x as (λ y. Format) [ true ↦ behind_row fs (then_format (p.format c) (λ v. row (formats_on p v ps))) | false ↦ holding (fs ++ p.format c ∷ []) ps c ]).spells d b (elim x as (λ y. Tree) [ true ↦ behind_tree ts (Join (found members p.name) (tree_row (trees_said members ps))) | false ↦ holding_tree (ts ++ found members p.name ∷ []) members ps ]) ↔ in_row (fs ++ (elim x as (λ y. List Format) [ true ↦ p.format c ∷ formats_on p (found members p.name) ps | false ↦ p.format c ∷ formats_said c members ps ])) (ts ++ found members p.name ∷ trees_said members ps) d b
+holding_by : (x : Bool) (c : Tree) (members : List Member) (p : Piece) (ps : List Piece) → HoldingFlat c members ps → (fs : List Format) (ts : List Tree) → SameLength fs ts → (d : Direction) (b : List ℕ) → (elim x as (λ y. Format) [ true ↦ after_row fs (then_format (p.format c) (λ v. row (formats_on p v ps))) | false ↦ holding (fs ++ p.format c ∷ []) ps c ]).spells d b (elim x as (λ y. Tree) [ true ↦ behind_tree ts (Join (found members p.name) (tree_row (trees_said members ps))) | false ↦ holding_tree (ts ++ found members p.name ∷ []) members ps ]) ↔ in_row (fs ++ (elim x as (λ y. List Format) [ true ↦ p.format c ∷ formats_on p (found members p.name) ps | false ↦ p.format c ∷ formats_said c members ps ])) (ts ++ found members p.name ∷ trees_said members ps) d b
 holding_by true c members p ps h fs ts l d b =
     holder_flat (p.format c) (λ v. row (formats_on p v ps)) (found members p.name) (formats_on p (found members p.name) ps) (trees_said members ps)
     (row_flat (formats_on p (found members p.name) ps) (trees_said members ps) (same_pieces (λ q. q.format (context_in p (found members p.name) q.needs)) (λ q. found members q.name) ps))
@@ -129,8 +129,8 @@ case_says_so site c None tag label members fields d b =
     concat_iff b (λ s. same_iff) (λ s. case_row_flat (formats_for site c fields) (field_trees members fields) (fields_same site c members fields) d s)
 case_says_so site c (Some width) tag label members fields d b = concat_iff b (λ s. same_iff) (λ s. inside_saying site c width members fields d s)
 
-pub case_saying : (text : Text) (struct tag : String) (label : Label) (c : Tree) (members : List Member) (d : Direction) (b : List ℕ) → case_bytes (struct_in text (codes struct)) c (length_width (struct_in text (codes struct)) (behind_tag (codes tag) (struct_in text (codes struct)).items)) (tag_in (struct_in text (codes struct)) (codes tag)) label members (fields_for (struct_in text (codes struct)) label (behind_tag (codes tag) (struct_in text (codes struct)).items)) d b ↔ case_says text struct tag label c members d b
-case_saying text struct tag label c members = case_says_so (struct_in text (codes struct)) c (length_width (struct_in text (codes struct)) (behind_tag (codes tag) (struct_in text (codes struct)).items)) (tag_in (struct_in text (codes struct)) (codes tag)) label members (fields_for (struct_in text (codes struct)) label (behind_tag (codes tag) (struct_in text (codes struct)).items))
+pub case_saying : (text : Text) (struct tag : String) (label : Label) (c : Tree) (members : List Member) (d : Direction) (b : List ℕ) → case_bytes (struct_in text (codes struct)) c (length_width (struct_in text (codes struct)) (after_tag (codes tag) (struct_in text (codes struct)).items)) (tag_in (struct_in text (codes struct)) (codes tag)) label members (fields_for (struct_in text (codes struct)) label (after_tag (codes tag) (struct_in text (codes struct)).items)) d b ↔ case_says text struct tag label c members d b
+case_saying text struct tag label c members = case_says_so (struct_in text (codes struct)) c (length_width (struct_in text (codes struct)) (after_tag (codes tag) (struct_in text (codes struct)).items)) (tag_in (struct_in text (codes struct)) (codes tag)) label members (fields_for (struct_in text (codes struct)) label (after_tag (codes tag) (struct_in text (codes struct)).items))
 
 -- on a tag that another struct has
 pub choice_saying : (text : Text) (struct path : String) (label : Label) (c : Tree) (members : List Member) (d : Direction) (b : List ℕ) → ((number_of label (tag_on (struct_in text (codes struct)) (codes path)).values ≡ selected (tag_on (struct_in text (codes struct)) (codes path)) c) × (row (formats_for (struct_in text (codes struct)) c (fields_on (codes path) label (struct_in text (codes struct)).items))).spells d b (tree_row (field_trees members (fields_on (codes path) label (struct_in text (codes struct)).items)))) ↔ choice_says text struct path label c members d b

@@ -44,14 +44,14 @@ abbrev pub formats_on : Piece → Tree → List Piece → List Format
 formats_on holder v ps = map (λ p. p.format (context_in holder v p.needs)) ps
 
 -- what holds tags, and what is after it, are one part, after those before
-abbrev pub behind_row : List Format → Format → Format
-behind_row [] f = f
-behind_row (b ∷ bs) f = pair_format (row (b ∷ bs)) f
+abbrev pub after_row : List Format → Format → Format
+after_row [] f = f
+after_row (b ∷ bs) f = pair_format (row (b ∷ bs)) f
 
 abbrev pub holding : (before : List Format) → List Piece → Tree → Format
 holding before [] c = row before
 holding before (p ∷ ps) c = elim (decides p ps) as (λ b. Format) [
-  | true ↦ behind_row before (then_format (p.format c) (λ v. row (formats_on p v ps)))
+  | true ↦ after_row before (then_format (p.format c) (λ v. row (formats_on p v ps)))
   | false ↦ holding (before ++ p.format c ∷ []) ps c
 ]
 

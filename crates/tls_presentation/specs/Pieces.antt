@@ -208,10 +208,10 @@ abbrev pub tag_in : Site → (field : Name) → Tag
 tag_in site field = site.names.tag (type_named (field_named field site.items))
 
 -- what is after a tag, up to the last select on it
-abbrev pub behind_tag : Name → List Item → List Item
-behind_tag name [] = []
-behind_tag name (Choice s ∷ items) = behind_tag name items
-behind_tag name (Plain f ∷ items) = elim (bytes_eq name f.name) as (λ b. List Item) [ true ↦ take (span f 0 0 items) items | false ↦ behind_tag name items ]
+abbrev pub after_tag : Name → List Item → List Item
+after_tag name [] = []
+after_tag name (Choice s ∷ items) = after_tag name items
+after_tag name (Plain f ∷ items) = elim (bytes_eq name f.name) as (λ b. List Item) [ true ↦ take (span f 0 0 items) items | false ↦ after_tag name items ]
 
 -- the number of a constant, or of the one value of a tag
 abbrev number_with : Tag → Option Constant → List Label → ℕ
@@ -224,7 +224,7 @@ constant_number_by site None items = 0
 constant_number_by site (Some f) items = number_with (site.names.tag f.of) f.constant (first_labels items)
 
 abbrev pub constant_number_in : Site → (field : Name) → ℕ
-constant_number_in site field = constant_number_by site (field_named field site.items) (behind_tag field site.items)
+constant_number_in site field = constant_number_by site (field_named field site.items) (after_tag field site.items)
 
 abbrev constant_width_by : Site → Option Field → ℕ
 constant_width_by site None = 0

@@ -8,7 +8,7 @@ use Rattle.tls_codec_grammar.specs.Format.{Format, number_format}
 use Rattle.tls_codec_grammar.specs.Inside.{bytes_to_end_format}
 use Rattle.tls_presentation.specs.Definition.{Value, Named, Name, Label, Word, Field}
 use Rattle.tls_presentation.specs.Tags.{is_reserved, Tag, number_of, selected}
-use Rattle.tls_presentation.specs.Pieces.{constant_width_in, constant_number_in, Piece, Site, fields_for, length_width, formats_for, is_filled, behind_tag, tag_in, tag_on, fields_on, pieces}
+use Rattle.tls_presentation.specs.Pieces.{constant_width_in, constant_number_in, Piece, Site, fields_for, length_width, formats_for, is_filled, after_tag, tag_in, tag_on, fields_on, pieces}
 use Rattle.tls_presentation.specs.Holding.{decides, formats_on}
 use Rattle.tls_presentation.specs.Meaning.{Text, struct_in}
 
@@ -100,7 +100,7 @@ case_row_says site c (Some width) tag label members fields d b =
 abbrev pub case_says : Text → (struct tag : String) → Label → Tree → List Member → Direction → List ℕ → Type 0
 case_says text struct tag label c members d b =
     let site = struct_in text (codes struct) in
-    let items = behind_tag (codes tag) site.items in
+    let items = after_tag (codes tag) site.items in
     case_row_says site c (length_width site items) (tag_in site (codes tag)) label members (fields_for site label items) d b
 
 -- a select whose tag another struct has: no byte shows it, and the context has to say this number

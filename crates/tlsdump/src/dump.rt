@@ -101,7 +101,7 @@ fn part_of<'a>(
             Ok(Part::Message(walked, rest))
         }
         Some(Err(rejected)) => {
-            let rejection = none_of(alloc, definitions, kind, bytes, rejected)?;
+            let rejection = rejection_of(alloc, definitions, kind, bytes, rejected)?;
             Ok(Part::NoMessage(rejection))
         }
         None => {
@@ -123,7 +123,7 @@ fn before<'a>(bytes: &'a [u8], rest: &[u8]) -> &'a [u8]
 }
 
 // The lines up to a rejected field.
-fn none_of<'a>(
+fn rejection_of<'a>(
     alloc: Global,
     definitions: &'a Definitions,
     kind: Kind<'a>,

@@ -94,8 +94,8 @@ pub fn kind_of(word: &str) -> Named<'_> {
     found
 }
 
-/// The type that bytes are taken for without a word: by their first ones an `MLSMessage` or a TLS
-/// record.
+/// The type of bytes, if no word names it. Their first bytes show whether they are taken for an
+/// `MLSMessage` or for a TLS record.
 pub fn recognised(bytes: &[u8]) -> Option<Kind<'static>> {
     let (protocol, name) = match bytes {
         [0, 1, 0, 1..=5, ..] => (Protocol::Mls, "MLSMessage"),

@@ -58,9 +58,9 @@ pub fn bytes_of(
     }
 }
 
-/// The bytes that hex digits stand for, each two after each other. Between them may be blanks,
-/// colons, commas and `0x`; of the lines of a dump, as `xxd` prints them, the digits between the
-/// position and the text count.
+/// The bytes that hex digits stand for, two digits a byte. Blanks, colons, commas and `0x` may be
+/// between the digits. A line of a dump, as `xxd` prints it, begins with a position and ends with a text:
+/// only the digits between these two count.
 pub fn hex_bytes(alloc: Global, text: &[u8]) -> Result<Vec<u8>, NotationError> {
     let mut digits = Digits {
         bytes: Vec::new(alloc),

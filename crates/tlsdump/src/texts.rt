@@ -11,8 +11,8 @@ use crate::walk::definitions::Definitions;
 use std::alloc::Global;
 use tlsgen_syntax::refusal::Trouble;
 
-// What opened bytes are, that no text has a type for: RFC 9420, section 5.3.3, and the messages of
-// a record (RFC 8446, section 5.1).
+// Two types that the RFCs' texts lack: the data of `application_id` (RFC 9420, section 5.3.3), and the
+// messages of a record (RFC 8446, section 5.1). The walk opens such bytes.
 static MLS: &str =
     "// RFC 9420\n// ---- section 5.3.3\nstruct { opaque application_id<V>; } ApplicationId;\n";
 

@@ -202,6 +202,9 @@ fn print_trouble<R: Eprint>(rt: &R, path: &str, trouble: Trouble) -> anyhow::Res
     match trouble {
         Trouble::Refused(refusal) => eprintln!(rt; "{path}: {refusal}")?,
         Trouble::Memory => eprintln!(rt; "{path}: out of memory")?,
+        Trouble::Inconsistent => {
+            eprintln!(rt; "{path}: a fault of tlsgen, not of this text; please report it")?;
+        }
     }
     Ok(())
 }

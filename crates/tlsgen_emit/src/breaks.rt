@@ -12,9 +12,10 @@ const NEVER: usize = 1000;
 
 const EARLY: usize = 100;
 
-// What is on the line of the next word, and of the word before.
+// Words that stay with the one after them.
 static BEFORE_ITS_OPERAND: [&str; 7] = ["→", "≡", "&&", "||", "as", "{", "ghost"];
 
+// Words that no line begins with.
 static NOT_FIRST: [&str; 6] = ["as", "=", ":", "in", "}", "};"];
 
 // Operators, and what a break before each costs.
@@ -40,7 +41,7 @@ pub fn push_code(alloc: Global, out: &mut String, text: &str) -> Result<(), Allo
     Ok(())
 }
 
-// Whether a line is of a clause, or of what a member of a trait means. One of a comment is none, whatever it says.
+// Whether a line belongs to a clause, or to the meaning of a trait's member. A line of a comment never does.
 fn is_of_clause(line: &str) -> bool {
     let text = line.trim_start();
     let begins = text.starts_with("ghost ") || text.starts_with("ensures ");

@@ -11,7 +11,7 @@ use crate::template::Holes;
 use crate::templates::views::{AFTER_TAG, IN_A_ROW};
 use crate::templates::{
     Templates, choices, opens, selectors, structs, structs_in_context, structs_on_tags,
-    sums as templates, values,
+    sums as sum_templates, values,
 };
 use crate::types::{Names, length_field};
 use crate::uses::Uses;
@@ -84,8 +84,8 @@ impl MessageKind {
             MessageKind::Values => values::templates(),
             MessageKind::Open => opens::templates(),
             MessageKind::Choice => choices::templates(),
-            MessageKind::Sum => templates::tagged(),
-            MessageKind::Select => templates::chosen(),
+            MessageKind::Sum => sum_templates::tagged(),
+            MessageKind::Select => sum_templates::chosen(),
         }
     }
 
@@ -289,7 +289,7 @@ impl<'a> Form<'a> {
     ) -> Result<(), AllocError>
         ensures { self.new.kind ≡ self.old.kind }
     {
-        if !names.is_context(message.name.as_str()) {
+        if !names.decides_parts(message.name.as_str()) {
             return self.holes.set_each(alloc, &selectors::NONE);
         }
         match self.kind {
@@ -317,8 +317,8 @@ impl<'a> Form<'a> {
         self.parts = cases_of(alloc, names, &self.holes, of, variants, uses)?;
         sums::set_cases(alloc, &mut self.parts, length.is_some(), variants)?;
         let wrapping = match length {
-            Some(_) => &templates::TAGGED,
-            None => &templates::CHOSEN,
+            Some(_) => &sum_templates::TAGGED,
+            None => &sum_templates::CHOSEN,
         };
         match length {
             Some(_) => add_names(&mut self.cases, &CASES_OF_SUM)?,

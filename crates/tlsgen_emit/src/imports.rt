@@ -48,7 +48,7 @@ impl<'a> Text<'a> {
         self.lines.iter().any(|line| line.contains(sign))
     }
 
-    // Those of the words that it has.
+    // Which of these words the text has.
     fn used(&self, alloc: Global, words: &[&'static str]) -> Result<Vec<&'static str>, AllocError> {
         let mut used = Vec::new(alloc);
         for word in words {
@@ -59,7 +59,7 @@ impl<'a> Text<'a> {
         Ok(used)
     }
 
-    // Those of the names of the cases that it has, and of those for a type of a field, in their order.
+    // Which of these names of the cases the text has, and which of the names for a field's type. Sorted.
     fn cases(
         &self,
         alloc: Global,

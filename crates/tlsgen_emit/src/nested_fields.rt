@@ -280,10 +280,10 @@ impl NestedFields {
             (Owner::Struct, [only]) if self.is_borrowed && !only.is_borrowed => {
                 only.holes.filled(alloc, "ByRef(self.$name$)")
             }
-            (Owner::Struct | Owner::StructInContext | Owner::Behind, [only]) => {
+            (Owner::Struct | Owner::StructInContext | Owner::AfterTags, [only]) => {
                 only.holes.filled(alloc, "self.$name$")
             }
-            (Owner::StructInContext | Owner::Behind, _) => {
+            (Owner::StructInContext | Owner::AfterTags, _) => {
                 self.nested(alloc, "$lend$", Join::Tuple, " ")
             }
             (Owner::Struct, _) => {

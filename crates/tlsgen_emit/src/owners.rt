@@ -9,7 +9,7 @@ pub enum Owner {
     /// A struct. A context decides some of its fields.
     StructInContext,
     /// The fields of a struct after one that holds tags. Some of these fields depend on the tags.
-    Behind,
+    AfterTags,
     /// A variant, whose tag is in a row with its fields.
     Variant,
     /// A case of a sum, whose fields are one value.
@@ -111,7 +111,7 @@ impl Owner {
     /// Whether the fields are those of a struct.
     pub fn is_struct(self) -> bool {
         match self {
-            Owner::Struct | Owner::StructInContext | Owner::Behind => true,
+            Owner::Struct | Owner::StructInContext | Owner::AfterTags => true,
             Owner::Variant | Owner::Case => false,
         }
     }
@@ -150,11 +150,11 @@ impl Owner {
     ) -> &'static [(&'static str, &'static str)] {
         let is_present = member.present_for.is_some();
         match (self, &member.decided) {
-            (Owner::StructInContext | Owner::Behind, Decided::Alone) => &BESIDE,
+            (Owner::StructInContext | Owner::AfterTags, Decided::Alone) => &BESIDE,
             (Owner::StructInContext, _) if is_present => &PRESENT,
             (Owner::StructInContext, _) => &IN_CONTEXT,
-            (Owner::Behind, _) if is_present => &PRESENT_ON_TAG,
-            (Owner::Behind, _) => &ON_TAG,
+            (Owner::AfterTags, _) if is_present => &PRESENT_ON_TAG,
+            (Owner::AfterTags, _) => &ON_TAG,
             _ if is_borrowed => &BORROWED,
             _ => &ALONE,
         }

@@ -5,7 +5,7 @@ use crate::nested_fields::NestedFields;
 use crate::owners::Owner;
 use crate::template::Holes;
 use crate::templates::structs_on_tags::{
-    BEFORE, BEHIND, BORROWED, FIRST, FieldHoles, GIVER, LATER, OWNED,
+    AFTER, BEFORE, BORROWED, FIRST, FieldHoles, GIVER, LATER, OWNED,
 };
 use crate::types::{Names, parenthesized};
 use crate::uses::Uses;
@@ -80,7 +80,7 @@ pub fn set<'a>(
     given.set_giver(alloc, holes)?;
     set_part(alloc, holes, &given, &GIVER)?;
     let behind = NestedFields::of(alloc, names, owner, is_borrowed, behind, uses)?;
-    set_part(alloc, holes, &behind, &BEHIND)?;
+    set_part(alloc, holes, &behind, &AFTER)?;
     if before.is_empty() {
         holes.set_each(alloc, &FIRST)?;
     } else {
@@ -105,7 +105,7 @@ fn set_giver<'a>(
     match message_of(names, giver.member) {
         Some(message) if message != giver.tag => {
             uses.giver = Some(message);
-            Ok(Owner::Behind)
+            Ok(Owner::AfterTags)
         }
         _ => Ok(Owner::StructInContext),
     }

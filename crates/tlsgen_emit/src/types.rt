@@ -294,7 +294,7 @@ impl<'a> Names<'a> {
     }
 
     /// Whether the message with this name decides parts of others: it is their context, or a field before them is or holds it.
-    pub fn is_context(&self, name: &str) -> bool {
+    pub fn decides_parts(&self, name: &str) -> bool {
         self.index.deciding.contains(name)
     }
 

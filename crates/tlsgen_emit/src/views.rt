@@ -42,7 +42,7 @@ fn is_viewed(message: &Message) -> bool {
     }
 }
 
-// Whether it is a select whose tag is elsewhere, and isn't only written.
+// Whether a message is a select whose tag is elsewhere, and can be read.
 fn is_read_select(message: &Message) -> bool {
     !message.is_borrowed && message.context.is_some() && matches!(message.body, Body::Sum { .. })
 }

@@ -190,7 +190,7 @@ static MODULES: [&str; 11] = [
     "tls_codec_views",
 ];
 
-static TYPES: [&str; 131] = [
+static TYPES: [&str; 127] = [
     "Abort",
     "AllocError",
     "AllocFailed",
@@ -273,10 +273,6 @@ static TYPES: [&str; 131] = [
     "ReadInPlace",
     "Rejected",
     "Result",
-    "SecretTlsByteVecU16",
-    "SecretTlsByteVecU24",
-    "SecretTlsByteVecU32",
-    "SecretTlsByteVecU8",
     "SecretVLBytes",
     "Selector",
     "Self",

@@ -13,7 +13,7 @@ const MAX_RUNS: usize = 3;
 const MAX_CASE_RUNS: usize = 2;
 
 /// Whether a message of a struct has references. One without fields has none.
-pub fn lends(sequence: &Sequence<'_>, body: &Body) -> bool {
+pub fn has_references(sequence: &Sequence<'_>, body: &Body) -> bool {
     sequence.is_borrowed
         && match body {
             Body::Values { .. } => false,

@@ -2,7 +2,7 @@
 ghost use Rattle.std.specs.Prelude.{IfOk};
 ghost use Rattle.tlsgen_model.specs.Writable.{HaveNames, HaveTypes, IsWritable};
 
-use crate::borrowed::lends;
+use crate::borrowed::has_references;
 use crate::cases::{Labelled, cases_of, find_case, tag_of};
 use crate::checks::{TOO_GREAT, check_letters};
 use crate::given::{Given, given_to};
@@ -142,7 +142,7 @@ impl<'a> Resolver<'a> {
         let message = Message {
             module: module_name(self.alloc, name.as_str())?,
             home: self.out.home,
-            is_borrowed: lends(sequence, &body),
+            is_borrowed: has_references(sequence, &body),
             doc,
             context: None,
             tag: Some(self.tag_of_cases(tag)?),

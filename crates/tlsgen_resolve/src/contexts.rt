@@ -165,8 +165,8 @@ fn enum_tag<'a>(alloc: Global, scope: Scope<'a>, name: &Name) -> Result<Option<T
     }))
 }
 
-/// The tag of the context that a struct is in, if it is in one: that of its selects, and of the types of its fields, but
-/// for those that a field before them has. Rejects two.
+/// The tag of a struct's context, if it has a context: the tag of its selects and of its fields' types. A tag that an earlier
+/// field has doesn't count. Rejects two tags.
 pub fn context_of<'a>(
     alloc: Global,
     scope: Scope<'a>,

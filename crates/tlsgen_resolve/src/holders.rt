@@ -142,7 +142,7 @@ fn unchecked(
     Ok(found)
 }
 
-// The same without what those contain, which are left.
+// Adds the unchecked structs that pieces contain directly to `found`. The new ones go to `left` too.
 fn push_contained(
     all: &Known<'_>,
     pieces: &[Piece<'_>],

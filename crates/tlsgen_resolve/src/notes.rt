@@ -86,7 +86,7 @@ pub fn filling_field<'a>(scope: Scope<'_>, one: &'a Struct) -> Option<&'a Field>
 /// The field at the end of a struct that goes to the end of what is read, if it has one.
 pub fn padding_of<'a>(scope: Scope<'_>, one: &'a Struct) -> Option<Padding<'a>> {
     if let Some(ending) = ending_of(scope, one) {
-        return Some(Padding::BehindType(ending.zeros));
+        return Some(Padding::AfterType(ending.zeros));
     }
     let Some(Part::Field(field)) = one.parts.last() else {
         return None;
@@ -178,7 +178,7 @@ impl<'a> Resolver<'a> {
             Said::Number(_) => {
                 self.is_value(file, &note.path) || sizes.contains(&joined(self.alloc, &note.path)?)
             }
-            Said::Open | Said::Closed | Said::ByRef | Said::LeftOut => true,
+            Said::Open | Said::Closed | Said::Borrowed | Said::LeftOut => true,
             said => match self.item_of(file, &note.path) {
                 Some(Item::Struct(one)) => self.is_said_of(one, note, said),
                 _ => false,
@@ -254,7 +254,7 @@ fn expected(said: &Said) -> Option<&'static str> {
         Said::Called(_) => Some(
             "a struct of this text and the tag of a select in it that has no name",
         ),
-        Said::Open | Said::Closed | Said::ByRef | Said::LeftOut => None,
+        Said::Open | Said::Closed | Said::Borrowed | Said::LeftOut => None,
     }
 }
 
@@ -316,6 +316,6 @@ fn joined(alloc: Global, path: &[Name]) -> Result<String, AllocError> {
 fn refused_note(alloc: Global, note: &Note, expected: &'static str) -> Trouble {
     match note.path.first() {
         Some(name) => refused(alloc, name.place, name.text.as_str(), expected),
-        None => Trouble::Memory,
+        None => Trouble::Inconsistent,
     }
 }

@@ -109,7 +109,7 @@ impl Rounds {
     }
 }
 
-// Of each item those that it is a part of.
+// For each item, the items that contain it.
 fn users_of(alloc: Global, needs: &[Vec<usize>]) -> Result<Vec<Vec<usize>>, AllocError> {
     let mut users = Vec::new(alloc);
     for _ in needs {
@@ -152,7 +152,7 @@ fn refused_circle(
                 "a type that doesn't contain itself",
             )
         }
-        None => Trouble::Memory,
+        None => Trouble::Inconsistent,
     }
 }
 

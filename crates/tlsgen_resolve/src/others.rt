@@ -92,7 +92,8 @@ fn refused_alone(alloc: Global, file: &File, name: &String) -> Trouble {
             of.text.as_str(),
             "a type that is the field of a struct in its own crate too: there it is a tag alone, and isn't written",
         ),
-        Ok(None) | Err(_) => Trouble::Memory,
+        Ok(None) => Trouble::Inconsistent,
+        Err(error) => Trouble::from(error),
     }
 }
 
@@ -105,7 +106,7 @@ fn refused_shared(alloc: Global, file: &File, name: &String) -> Trouble {
             name.as_str(),
             "no tag of another crate whose type has a name that this text, or a third crate, has too",
         ),
-        None => Trouble::Memory,
+        None => Trouble::Inconsistent,
     }
 }
 

@@ -1,5 +1,5 @@
-//! What goes to the end of what is read, with no length, as `opaque padding[length_of_padding];` of RFC 9420, section 6.3.1:
-//! the struct is written without it, and is read and written in a type that has it.
+//! Padding up to the end of the input, without a length, such as `opaque padding[length_of_padding];` of RFC 9420, section 6.3.1.
+//! The struct that is made lacks it. A type around that struct reads and writes both.
 use crate::naming::type_name;
 use crate::refuse::refused;
 use crate::sequence::Sequence;
@@ -16,7 +16,7 @@ pub enum Padding<'a> {
     /// Any bytes.
     Bytes(&'a Field),
     /// Zeros after the type of the bytes before it.
-    BehindType(&'a Field),
+    AfterType(&'a Field),
 }
 
 impl Padding<'_> {
@@ -27,7 +27,7 @@ impl Padding<'_> {
                 "no struct that zeros follow up to the end: it is read of all that there is, as `Padded`",
             Padding::Bytes(_) =>
                 "no struct that bytes follow up to the end: it is read of all that there is, as `Followed`",
-            Padding::BehindType(_) =>
+            Padding::AfterType(_) =>
                 "no struct whose type is its last byte that isn't zero: it is read of all that there is",
         }
     }
@@ -55,7 +55,7 @@ pub fn push_padding(
     let (what, field, of) = match sequence.padding {
         Some(Padding::Zeros(field)) => ("Zeros", field, "Padded"),
         Some(Padding::Bytes(field)) => ("Bytes", field, "Followed"),
-        Some(Padding::BehindType(_)) | None => return Ok(()),
+        Some(Padding::AfterType(_)) | None => return Ok(()),
     };
     let name = type_name(alloc, sequence.name)?;
     let line = declared(alloc, field)?;

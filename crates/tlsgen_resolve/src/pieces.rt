@@ -1,5 +1,5 @@
-//! The parts of a struct as pieces: a number with what it counts is one, and of a select that always has one case its
-//! fields are.
+//! The parts of a struct as pieces. A number and what it counts are one piece. In place of a select that always has one case
+//! come the fields of that case.
 use crate::counted::length_before;
 use crate::ending::ending_of;
 use crate::notes::{counts_select, filling_field, is_padding, padding_of, settled_case};

@@ -33,7 +33,7 @@ pub struct PlanError {
     pub is_note: bool,
     /// The crates before it that define the rejected name, by their positions among the files.
     pub homes: Vec<usize>,
-    /// Why it is rejected. If memory was refused, no file is to blame, and the fields above say nothing.
+    /// Why it is rejected. If memory was refused, or the generator has a fault, no file is to blame.
     pub trouble: Trouble,
 }
 
@@ -135,7 +135,7 @@ fn error_of(
         Trouble::Refused(refusal) => {
             definitions.homes_before(alloc, file, refusal.found.as_str())
         }
-        Trouble::Memory => Ok(Vec::new(alloc)),
+        Trouble::Memory | Trouble::Inconsistent => Ok(Vec::new(alloc)),
     };
     match homes {
         Ok(homes) => PlanError {

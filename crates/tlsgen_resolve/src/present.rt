@@ -49,7 +49,7 @@ impl<'a> Resolver<'a> {
     }
 }
 
-// The field that each case is which isn't empty. None if two differ, or if no case is empty, or none isn't.
+// The one field that all cases have, except the empty ones. `None` if two fields differ, if no case is empty, or if all are.
 fn only_field<'a>(alloc: Global, select: &'a Select) -> Result<Option<&'a Field>, AllocError> {
     let mut only = None;
     let mut is_empty = false;

@@ -18,7 +18,7 @@ pub struct Index {
     by_name: BTreeMap<String, Position>,
     /// Enums by their names in small letters.
     small: BTreeMap<String, Position>,
-    /// Of another name of a type, the last one on the way from it to the type.
+    /// For each alias the last alias on the way from it to its type.
     last: BTreeMap<String, Position>,
     /// The positions of each file's notes, by the first name of their path.
     notes: Vec<BTreeMap<String, Vec<usize>>>,

@@ -48,7 +48,7 @@ pub fn counted_select<'b, 'a>(
     }
 }
 
-/// The case of a tag that has no other, where it has fields and no length counts them.
+/// The only case of a tag, if it has fields and no length counts them.
 pub fn only_case<'b, 'a>(segment: &'b [ResolvedPiece<'a>]) -> Option<&'b Labelled<'a>> {
     if segment
         .iter()

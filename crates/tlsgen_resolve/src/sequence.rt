@@ -42,7 +42,7 @@ pub struct Sequence<'a> {
     pub remark: &'a Remark,
     pub is_borrowed: bool,
     pub pieces: Vec<Piece<'a>>,
-    /// The tag that decides its parts, where that is no piece of it.
+    /// The tag that decides its parts, if the tag isn't one of its pieces.
     pub context: Option<OuterTag<'a>>,
     /// It is bytes that fill what is left of a length, and no message of its own.
     pub is_filling: bool,

@@ -2,7 +2,7 @@
 ghost use Rattle.std.specs.Prelude.{IfOk};
 ghost use Rattle.tlsgen_model.specs.Writable.{IsWritable};
 
-use crate::borrowed::lends;
+use crate::borrowed::has_references;
 use crate::constants::{Fixed, fixed_body, fixed_of};
 use crate::ending::ending_of;
 use crate::held::{TagPart, part_of};
@@ -53,14 +53,14 @@ impl<'a> Resolver<'a> {
         self.check_runs(sequence, &body)?;
         let mut message = self.defined_message(sequence.name, sequence.remark, body)?;
         push_padding(self.alloc, &mut message.doc, sequence)?;
-        message.is_borrowed = lends(sequence, &message.body);
+        message.is_borrowed = has_references(sequence, &message.body);
         if let Some(tag) = &sequence.context {
             message.context = Some(tag.context(self.alloc)?);
         }
         self.push(sequence.place, message)
     }
 
-    // Resolves a piece, and puts it before those that follow it. Returns whether that completes the struct.
+    // Resolves a piece, and puts it before those that follow it: `tail` is in reverse. Returns whether that completes the struct.
     fn prepend(
         &mut self,
         sequence: &Sequence<'a>,

@@ -120,7 +120,7 @@ impl<'a> Resolver<'a> {
             self.push_fields(case.fields, &mut fields)?;
             self.push_case(case, fields.into_members(), false, name, &mut list)?;
         }
-        list.into_sum(None).ok_or(Trouble::Memory)
+        list.into_sum(None).ok_or(Trouble::Inconsistent)
     }
 
     /// What comes after each number of a tag and a length, which it fills.

@@ -20,7 +20,7 @@ use tlsgen_syntax::syntax::{Constant, Field, Item, Name, Number, Vector};
 // The most elements of an array.
 const MAX_ARRAY_LENGTH: u64 = 65535;
 
-// What is expected of an array whose number cuts an integer.
+// What is expected in place of an array's number that isn't a multiple of its integers' bytes.
 const CUT: &str =
     "the bytes of whole elements: between an array's brackets is the number of its bytes";
 
@@ -73,7 +73,7 @@ fn constant_type(
     })
 }
 
-// Without a vector.
+// The type of a field without a vector.
 fn single_type(alloc: Global, scope: Scope<'_>, field: &Field) -> Result<Type, Trouble>
     ensures { IfOk result IsType }
 {
@@ -114,7 +114,7 @@ fn refused_length(alloc: Global, path: &[Name]) -> Trouble {
             name.text.as_str(),
             "a number, or the name of the field just before this one: an integer of 1 to 4 bytes, which counts it; or a note of the number",
         ),
-        None => Trouble::Memory,
+        None => Trouble::Inconsistent,
     }
 }
 
@@ -158,7 +158,7 @@ fn cuts_an_integer(field: &Field, count: u64) -> bool {
     }
 }
 
-// The length has the bytes that the ceiling takes.
+// The length field has as many bytes as the ceiling needs.
 fn bounded_shape(alloc: Global, least: Number, most: Number) -> Result<Shape, Trouble>
     ensures shape { IfOk result (λ shape. IsTrue (is_shape shape)) }
     ensures vector { IfOk result (λ shape. IsTrue (is_vector shape)) }
@@ -188,7 +188,7 @@ fn power_text(number: u64) -> Option<&'static str> {
     }
 }
 
-// Without a vector.
+// The element of a field without a vector.
 fn single_element(alloc: Global, scope: Scope<'_>, field: &Field) -> Result<Element, Trouble>
     ensures { IfOk result (λ element. IsTrue (can_be element field.now.is_optional shapes.One)) }
 {

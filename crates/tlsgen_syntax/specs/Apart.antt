@@ -91,16 +91,16 @@ sent_part_then outer (source_parts.InPlace f) rest =
     word (type_word outer f.name) ∷ name_then f.name (vector_then f.vector (mark marks.Semicolon ∷ rest))
 
 -- [borrowed]
-abbrev pub by_ref_then : StructKind → List Sign → List Sign
-by_ref_then struct_kinds.Sent rest = rest
-by_ref_then struct_kinds.ByRef rest = mark marks.ByRef ∷ rest
-by_ref_then struct_kinds.Signed rest = rest
+abbrev pub borrowed_then : StructKind → List Sign → List Sign
+borrowed_then struct_kinds.Sent rest = rest
+borrowed_then struct_kinds.Borrowed rest = mark marks.Borrowed ∷ rest
+borrowed_then struct_kinds.Signed rest = rest
 
 -- what is signed and types in place, and [borrowed] struct { parts } NAME ;
 abbrev pub apart_struct_then : SourceStruct → List Sign → List Sign
 apart_struct_then s rest =
     each_then (before_then s.name) s.parts.items
-    (by_ref_then s.kind
+    (borrowed_then s.kind
     (mark marks.Struct ∷ mark marks.OpeningBrace ∷
     each_then (sent_part_then s.name) s.parts.items
     (mark marks.ClosingBrace ∷ name_then s.name (mark marks.Semicolon ∷ rest))))

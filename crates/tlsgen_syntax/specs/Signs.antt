@@ -51,7 +51,7 @@ abbrev pub mark_text : Mark → List ℕ
 mark_text marks.Case = codes "case"
 mark_text marks.DigitallySigned = codes "digitally-signed"
 mark_text marks.Enum = codes "enum"
-mark_text marks.ByRef = codes "borrowed"
+mark_text marks.Borrowed = codes "borrowed"
 mark_text marks.Open = codes "open"
 mark_text marks.Optional = codes "optional"
 mark_text marks.Select = codes "select"
@@ -280,7 +280,7 @@ source_part_then (source_parts.InPlace f) rest = in_place_then f rest
 -- [borrowed | digitally-signed]
 abbrev pub kind_then : StructKind → List Sign → List Sign
 kind_then struct_kinds.Sent rest = rest
-kind_then struct_kinds.ByRef rest = mark marks.ByRef ∷ rest
+kind_then struct_kinds.Borrowed rest = mark marks.Borrowed ∷ rest
 kind_then struct_kinds.Signed rest = mark marks.DigitallySigned ∷ rest
 
 -- [borrowed | digitally-signed] struct { parts, signatures and types in place } NAME ;
@@ -305,7 +305,7 @@ source_signs source = each_then definition_then source.definitions.items []
 -- [borrowed] struct { parts } NAME ;
 abbrev pub struct_then : Struct → List Sign → List Sign
 struct_then s rest =
-    flag_then marks.ByRef s.is_borrowed
+    flag_then marks.Borrowed s.is_borrowed
     (mark marks.Struct ∷ mark marks.OpeningBrace ∷
     each_then part_then s.parts.items
     (mark marks.ClosingBrace ∷ name_then s.name (mark marks.Semicolon ∷ rest)))
@@ -331,7 +331,7 @@ said_then saids.Pads rest = word (codes "fills") ∷ word (codes "rest") ∷ wor
 said_then (saids.Ends name) rest = word (codes "ends") ∷ name_then name rest
 said_then (saids.Called name) rest = word (codes "called") ∷ name_then name rest
 said_then saids.Open rest = word (codes "is") ∷ mark marks.Open ∷ rest
-said_then saids.ByRef rest = word (codes "is") ∷ mark marks.ByRef ∷ rest
+said_then saids.Borrowed rest = word (codes "is") ∷ mark marks.Borrowed ∷ rest
 said_then saids.Closed rest = word (codes "is") ∷ word (codes "closed") ∷ rest
 said_then saids.LeftOut rest = word (codes "left") ∷ word (codes "out") ∷ rest
 

@@ -21,7 +21,7 @@ pub fn apply(alloc: Global, file: &mut File, notes: Vec<Note>) -> Result<(), Tro
         match note.said {
             Said::Open => noted.enum_of(alloc, file, note)?.is_open = true,
             Said::Closed => noted.enum_of(alloc, file, note)?.is_open = false,
-            Said::ByRef => noted.struct_of(alloc, file, note)?.is_borrowed = true,
+            Said::Borrowed => noted.struct_of(alloc, file, note)?.is_borrowed = true,
             Said::LeftOut => noted.leave_out(alloc, note)?,
             Said::Number(_)
             | Said::Named(_)
@@ -125,10 +125,10 @@ pub(crate) fn name_of(item: &Item) -> &Name {
     }
 }
 
-/// The error for a rejected note.
+/// The error for a rejected note. A note that was read has a path; one without is `Inconsistent`.
 pub(crate) fn refused(alloc: Global, note: &Note, expected: &'static str) -> Trouble {
     match note.path.first() {
         Some(name) => Trouble::at(name.place, name.text.clone(), expected),
-        None => Trouble::Memory,
+        None => Trouble::Inconsistent,
     }
 }

@@ -66,7 +66,7 @@ fn definition(alloc: Global, tokens: &mut Tokens<'_>) -> Result<Definition, Trou
 {
     match tokens.mark() {
         Some(Mark::Open | Mark::Enum) => Ok(Definition::Enum(enums::enumeration(alloc, tokens)?)),
-        Some(Mark::ByRef | Mark::DigitallySigned | Mark::Struct) => Ok(Definition::Struct(
+        Some(Mark::Borrowed | Mark::DigitallySigned | Mark::Struct) => Ok(Definition::Struct(
             structs::structure(alloc, tokens)?,
         )),
         _ => Ok(Definition::Alias(fields::alias(alloc, tokens)?)),

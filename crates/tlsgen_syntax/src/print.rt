@@ -77,7 +77,7 @@ fn print_value_name(out: &mut String, name: &ValueName) -> Result<(), AllocError
 fn print_struct(out: &mut String, one: &SourceStruct) -> Result<(), AllocError> {
     out.push_str(match one.kind {
         StructKind::Sent => "struct {\n",
-        StructKind::ByRef => "borrowed struct {\n",
+        StructKind::Borrowed => "borrowed struct {\n",
         StructKind::Signed => "digitally-signed struct {\n",
     })?;
     for part in &one.parts {

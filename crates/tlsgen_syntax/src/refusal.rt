@@ -76,6 +76,8 @@ pub enum Trouble {
     Refused(Refusal),
     /// Memory was refused.
     Memory,
+    /// A fault of the generator, and not of the text: what it made isn't as its own code expects.
+    Inconsistent,
 }
 
 impl Trouble {

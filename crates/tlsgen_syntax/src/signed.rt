@@ -63,7 +63,7 @@ fn push_struct(alloc: Global, items: &mut Vec<Item>, one: SourceStruct) -> Resul
         sent.push(sent_part(alloc, items, &name, part)?)?;
     }
     items.push(Item::Struct(Struct {
-        is_borrowed: matches!(kind, StructKind::ByRef),
+        is_borrowed: matches!(kind, StructKind::Borrowed),
         parts: sent,
         name,
     }))?;

@@ -67,7 +67,7 @@ pub enum StructKind {
     /// `struct { .. }` is sent.
     Sent,
     /// `borrowed struct { .. }` has references to its fields, and is only written.
-    ByRef,
+    Borrowed,
     /// `digitally-signed struct { .. }` is signed, and a signature is sent in its place.
     Signed,
 }

@@ -68,7 +68,7 @@ pub enum Said {
     /// `KeyUpdateRequest is closed`: an enum rejects numbers without a name.
     Closed,
     /// `FramedContentTBS is borrowed`: a struct has references to its fields, and is only written.
-    ByRef,
+    Borrowed,
     /// `TLSInnerPlaintext left out`: nothing is made of a definition.
     LeftOut,
 }

@@ -1,7 +1,7 @@
 //! What a private message encrypts, in the context of its content type (RFC 9420, section 6.3.1).
 use crate::tests::mls_messages::COMMIT;
 use crate::tests::signed::part;
-use crate::tests::{DOES_NOT_FIT, same};
+use crate::tests::{DOES_NOT_FIT, LENGTH, same};
 use mls::{
     Commit, ContentType, FramedContent, FramedContentBody, PrivateContent, PrivateMessage,
     PrivateMessageContent, Sender, SenderData,
@@ -106,6 +106,21 @@ fn other_contents_are_rejected(rt: HostRuntime) -> Result<(), Fail> {
     // No commit ends before its confirmation tag.
     let other = read(alloc, ContentType::Commit, &[0, 0, 1, 0xe1]).err();
     same(&rt, other, Some(Error::EndOfStream));
+    Ok(())
+}
+
+// No vector holds these zeros. It has the byte from before.
+#[test]
+fn too_many_zeros(rt: HostRuntime) -> Result<(), Fail> {
+    let alloc = rt.alloc();
+    let mut padded = read(alloc, ContentType::Application, &APPLICATION)?;
+    for padding in [isize::MAX as usize, usize::MAX] {
+        padded.padding = padding;
+        let mut out = [7].to_vec(alloc)?;
+        let found = padded.tls_serialize_into_for(&ContentType::Application, &mut out);
+        same(&rt, found, Err(LENGTH));
+        same(&rt, out.as_slice(), [7].as_slice());
+    }
     Ok(())
 }
 

@@ -13,7 +13,7 @@ use std::test::Fail;
 use test_support::each_call::expect_written_and_cloned;
 use tls_codec::{DeserializeBytes, Error, Serialize, VLBytes};
 
-fn read(alloc: Global, bytes: &[u8]) -> Result<MLSMessageBody, Error> {
+pub(super) fn read(alloc: Global, bytes: &[u8]) -> Result<MLSMessageBody, Error> {
     let message = MLSMessage::tls_deserialize_exact_bytes(alloc, bytes)?;
     Ok(message.body)
 }
@@ -68,7 +68,7 @@ fn a_key_package(rt: HostRuntime) -> Result<(), Fail> {
     Ok(())
 }
 
-fn group_info(rt: &impl Abort, alloc: Global) -> Result<GroupInfo, Fail> {
+pub(super) fn group_info(rt: &impl Abort, alloc: Global) -> Result<GroupInfo, Fail> {
     let MLSMessageBody::MlsGroupInfo(info) = read(alloc, &GROUP_INFO)? else {
         panic!(rt; "no group info");
     };
@@ -112,7 +112,7 @@ fn expect_leaf_written(
     expect_written_and_cloned(alloc, "a leaf node", &signed, &expected)
 }
 
-fn public_message(rt: &impl Abort, alloc: Global) -> Result<PublicMessage, Fail> {
+pub(super) fn public_message(rt: &impl Abort, alloc: Global) -> Result<PublicMessage, Fail> {
     let MLSMessageBody::MlsPublicMessage(message) = read(alloc, &COMMIT)? else {
         panic!(rt; "no public message");
     };
@@ -134,7 +134,7 @@ fn signed_content<'a>(
 }
 
 // What its signature is over.
-fn signed_message(
+pub(super) fn signed_message(
     alloc: Global,
     message: &PublicMessage,
     context: &Option<GroupContext>,

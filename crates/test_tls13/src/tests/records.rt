@@ -13,15 +13,10 @@ use tls13::{
 // The greatest fragment of a record (section 5.1), and how many bytes of messages are kept.
 const FRAGMENT: usize = 16_384;
 
-const MOST: usize = 65_536;
+pub(super) const MOST: usize = 65_536;
 
-// Appends the fragment of the record that the bytes begin with. Returns what is left after the record.
-fn take_record<'a>(
-    alloc: Global,
-    messages: &mut Vec<u8>,
-    bytes: &'a [u8],
-) -> Result<&'a [u8], Error> {
-    let (record, rest) = TLSPlaintext::tls_deserialize_bytes(alloc, bytes)?;
+// Appends the fragment of a record, which has to be a part of the handshake.
+pub(super) fn append_fragment(messages: &mut Vec<u8>, record: &TLSPlaintext) -> Result<(), Error> {
     let fragment = record.fragment.as_slice();
     if record.kind != ContentType::HANDSHAKE {
         return Err(Error::UnknownValue(u64::from(record.kind.0)));
@@ -33,11 +28,22 @@ fn take_record<'a>(
         return Err(Error::InvalidVectorLength);
     }
     messages.extend_from_slice(fragment)?;
+    Ok(())
+}
+
+// Appends the fragment of the record that the bytes begin with. Returns what is left after the record.
+fn take_record<'a>(
+    alloc: Global,
+    messages: &mut Vec<u8>,
+    bytes: &'a [u8],
+) -> Result<&'a [u8], Error> {
+    let (record, rest) = TLSPlaintext::tls_deserialize_bytes(alloc, bytes)?;
+    append_fragment(messages, &record)?;
     Ok(rest)
 }
 
 // The first message and what is left after it, or none if its bytes aren't all there.
-fn take_message(left: &[u8]) -> Result<Option<(Encoded<'_, Handshake>, &[u8])>, Error> {
+pub(super) fn take_message(left: &[u8]) -> Result<Option<(Encoded<'_, Handshake>, &[u8])>, Error> {
     let [_, a, b, c, body @ ..] = left else {
         return Ok(None);
     };

@@ -101,6 +101,7 @@ fn tokens_of(rt: &impl Abort, alloc: Global, text: &str) -> Vec<Token> {
         Ok(tokens) => tokens,
         Err(Trouble::Refused(refusal)) => panic!(rt; "{refusal}"),
         Err(Trouble::Memory) => panic!(rt; "out of memory"),
+        Err(Trouble::Inconsistent) => panic!(rt; "a fault of tlsgen"),
     }
 }
 

@@ -286,6 +286,7 @@ fn notes_beside_texts(rt: HostRuntime) -> Result<(), Fail> {
             }
             Err(Trouble::Refused(refusal)) => panic!(rt; "{text}: {refusal}"),
             Err(Trouble::Memory) => panic!(rt; "out of memory"),
+            Err(Trouble::Inconsistent) => panic!(rt; "a fault of tlsgen"),
         }
     }
     Ok(())

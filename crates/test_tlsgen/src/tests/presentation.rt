@@ -14,6 +14,7 @@ fn source_of(rt: &impl Abort, alloc: Global, text: &str) -> Source {
         Ok(source) => source,
         Err(Trouble::Refused(refusal)) => panic!(rt; "{refusal}"),
         Err(Trouble::Memory) => panic!(rt; "out of memory"),
+        Err(Trouble::Inconsistent) => panic!(rt; "a fault of tlsgen"),
     }
 }
 
@@ -22,6 +23,7 @@ pub fn refusal_of(rt: &impl Abort, alloc: Global, text: &str) -> Refusal {
         Ok(_) => panic!(rt; "it parses"),
         Err(Trouble::Refused(refusal)) => refusal,
         Err(Trouble::Memory) => panic!(rt; "out of memory"),
+        Err(Trouble::Inconsistent) => panic!(rt; "a fault of tlsgen"),
     }
 }
 

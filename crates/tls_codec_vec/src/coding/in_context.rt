@@ -32,6 +32,8 @@ impl<C: Size, F: LengthField, T: SerializeFor<C>> SerializeFor<C> for TlsVec<F, 
         counted::write_for::<C, F, T, W>(context, writer, self.as_slice())
     }
 
+    /// `InvalidVectorLength`: `F` doesn't hold the number of the elements' bytes, or the vector
+    /// would pass `isize::MAX` bytes. Every other error is an element's, or `OutOfMemory`.
     fn tls_serialize_into_for(&self, context: &C, out: &mut Vec<u8>) -> Result<usize, Error> {
         counted::append_for::<C, F, T>(context, out, self.as_slice())
     }
@@ -40,6 +42,10 @@ impl<C: Size, F: LengthField, T: SerializeFor<C>> SerializeFor<C> for TlsVec<F, 
 impl<C: Size, F: LengthField, T: DeserializeFor<C>> DeserializeFor<C> for TlsVec<F, T> {
     ghost names = { λ c. counted_list_source_names F.field (T.format_for c) (T.names c) };
 
+    /// `EndOfStream`: there is no whole length, or an element passes the end that it declares.
+    /// `InvalidVectorLength`: `F` rejects the length, as one wider than needed or out of its bounds.
+    /// `DecodingError("vector element consumed 0 bytes")`: an element takes no byte. Every other
+    /// error is an element's, the source's, or `OutOfMemory`.
     fn tls_deserialize_for<R: Source>(
         context: &C,
         alloc: Global,
@@ -53,6 +59,11 @@ impl<C: Size, F: LengthField, T: DeserializeFor<C>> DeserializeFor<C> for TlsVec
 impl<C: Size, F: LengthField, T: DeserializeBytesFor<C>> DeserializeBytesFor<C> for TlsVec<F, T> {
     ghost names = { λ c. counted_list_names F.field (T.format_for c) (T.names c) };
 
+    /// `EndOfStream`: there is no whole length.
+    /// `InvalidVectorLength`: `F` rejects the length, as one wider than needed or out of its bounds.
+    /// `DecodingError("elements do not fill the declared length")`: an element passes the end that
+    /// it declares. `DecodingError("vector element consumed 0 bytes")`: an element takes no byte.
+    /// Every other error is an element's, or `OutOfMemory`.
     fn tls_deserialize_bytes_for<'a>(
         context: &C,
         alloc: Global,

@@ -7,7 +7,7 @@ use tlsgen_syntax::parser::{parse, parse_notes};
 use tlsgen_syntax::refusal::Trouble;
 use tlsgen_syntax::syntax::{Enum, Field, File, Item, Name, Note, Said, Struct, Value};
 
-/// The definitions of some texts, by their names. Of two of one name the first one's text has it.
+/// The definitions of some texts, by their names. If two have the same name, the first one counts.
 #[derive(Drop)]
 pub struct Definitions {
     files: Vec<File>,

@@ -133,7 +133,7 @@ impl<'a> Walk<'a> {
         self.add(place, bytes, shown)
     }
 
-    // Bounds the select right after a number that counts its bytes.
+    // If this number counts the bytes of the select after it, the select ends with these bytes.
     fn enclose(
         &mut self,
         place: Place<'a>,
@@ -228,7 +228,7 @@ impl<'a> Walk<'a> {
     }
 }
 
-// What is expected of a number with a type of its own: this type, or what its field always is.
+// What is expected where a number has a type of its own: its field if that is constant, or else the type.
 fn code_expected<'a>(of: &'a str, expected: Expected<'a>) -> Expected<'a> {
     match expected {
         Expected::Field(field) if field.constant.is_some() => expected,

@@ -65,7 +65,7 @@ fn extension_of(scope: &Scope<'_>, name: &str, content: &[u8]) -> Option<&'stati
     }
 }
 
-/// The type of handshake message that the body of this name is of, with its number.
+/// The type of handshake message that a struct of this name is in, and the number of that type.
 pub(crate) fn role_of(of: &str) -> Option<(&'static str, u64)> {
     match of {
         "ClientHello" => Some(("client_hello", 1)),
@@ -78,8 +78,8 @@ pub(crate) fn role_of(of: &str) -> Option<(&'static str, u64)> {
     }
 }
 
-/// What a number is called that no text names: versions (RFC 8446, sections 4.1.2 and 4.2.1) and
-/// suites (its appendix B.4).
+/// The name of a version (RFC 8446, sections 4.1.2 and 4.2.1) or of a suite (its appendix B.4). The texts
+/// don't name these numbers.
 pub(crate) fn code_name(of: &str, number: u64) -> Option<&'static str> {
     match (of, number) {
         ("ProtocolVersion", 0x0301) => Some("TLS 1.0"),

@@ -67,8 +67,8 @@ fn is_for(case: &Case, known: Option<Known<'_>>) -> bool {
     })
 }
 
-// The label of a case's field: its own name; or for a field without one that of the select, or else
-// that of the tag.
+// The label of a case's field. It is the field's name. If the field has none, it is the name of the
+// select, or else that of the tag.
 fn label_of<'a>(select: &'a Select, field: &'a Field, known: Option<Known<'a>>) -> &'a str {
     if field.is_named {
         return field.name.text.as_str();

@@ -58,47 +58,47 @@ pub static GIVER: FieldHoles = FieldHoles {
 };
 
 /// The fields after it.
-pub static BEHIND: FieldHoles = FieldHoles {
-    types: "behind_types",
-    borrowed_types: "behind_borrowed_types",
-    borrowed: "behind_borrowed",
-    plain: "behind_plain",
-    format: "behind_format",
-    law: "behind_law",
-    lets: "behind_lets",
+pub static AFTER: FieldHoles = FieldHoles {
+    types: "after_types",
+    borrowed_types: "after_borrowed_types",
+    borrowed: "after_borrowed",
+    plain: "after_plain",
+    format: "after_format",
+    law: "after_law",
+    lets: "after_lets",
     tuple: "rest",
     binds: "λ c. ",
 };
 
 /// The texts for a struct whose first field decides others.
 pub static FIRST: [(&str, &str); 7] = [
-    ("then_types", "Then<$giver_type$, $behind_types$>"),
+    ("then_types", "Then<$giver_type$, $after_types$>"),
     (
         "then_borrowed_types",
-        "ByRefThen<'a, $giver_rust$, $behind_borrowed_types$>",
+        "ByRefThen<'a, $giver_rust$, $after_borrowed_types$>",
     ),
     ("then_borrowed", "ByRefThen { first, rest }"),
     (
         "then_lets",
         "        let Then { first: $giver$, rest } = parts;\n",
     ),
-    ("then_plain", "Join\n    $giver_plain$\n    $behind_plain$"),
+    ("then_plain", "Join\n    $giver_plain$\n    $after_plain$"),
     (
         "then_format",
-        "then_format\n    $giver_format$\n    $behind_format$",
+        "then_format\n    $giver_format$\n    $after_format$",
     ),
-    ("then_law", "then_meets\n    $giver_law$\n    $behind_law$"),
+    ("then_law", "then_meets\n    $giver_law$\n    $after_law$"),
 ];
 
 /// Of one that has fields before it.
 pub static LATER: [(&str, &str); 7] = [
     (
         "then_types",
-        "($before_types$, Then<$giver_type$, $behind_types$>)",
+        "($before_types$, Then<$giver_type$, $after_types$>)",
     ),
     (
         "then_borrowed_types",
-        "($before_borrowed_types$, ByRefThen<'a, $giver_rust$, $behind_borrowed_types$>)",
+        "($before_borrowed_types$, ByRefThen<'a, $giver_rust$, $after_borrowed_types$>)",
     ),
     (
         "then_borrowed",
@@ -112,15 +112,15 @@ $before_lets$        let Then { first: $giver$, rest } = rest;
     ),
     (
         "then_plain",
-        "pair_tree\n    $before_plain$\n    (Join $giver_plain$ $behind_plain$)",
+        "pair_tree\n    $before_plain$\n    (Join $giver_plain$ $after_plain$)",
     ),
     (
         "then_format",
-        "pair_format\n    $before_format$\n    (then_format $giver_format$ $behind_format$)",
+        "pair_format\n    $before_format$\n    (then_format $giver_format$ $after_format$)",
     ),
     (
         "then_law",
-        "pair_meets\n    $before_law$\n    (then_meets $giver_law$ $behind_law$)",
+        "pair_meets\n    $before_law$\n    (then_meets $giver_law$ $after_law$)",
     ),
 ];
 
@@ -141,7 +141,7 @@ impl $name$$any$ {
         ensures { ⟦<ByRefParts<'static> as Size>⟧.plain result ≡ $module$_plain self.now }
     {
         let first = $giver_own$;
-        let rest = $behind_borrowed$;
+        let rest = $after_borrowed$;
         $then_borrowed$
     }
 }
@@ -176,7 +176,7 @@ impl Deserialize for $name$ {
 
     fn tls_deserialize<R: Source>(alloc: Global, src: &mut R) -> Result<$name$, Error> {
         let parts = <Parts>::tls_deserialize(alloc, src)?;
-$then_lets$$behind_lets$        Ok($name$ { $fields$ })
+$then_lets$$after_lets$        Ok($name$ { $fields$ })
     }
 }
 
@@ -185,7 +185,7 @@ impl DeserializeBytes for $name$ {
 
     fn tls_deserialize_bytes(alloc: Global, whole: &[u8]) -> Result<($name$, &[u8]), Error> {
         let (parts, left) = <Parts>::tls_deserialize_bytes(alloc, whole)?;
-$then_lets$$behind_lets$        Ok(($name$ { $fields$ }, left))
+$then_lets$$after_lets$        Ok(($name$ { $fields$ }, left))
     }
 }
 ";

@@ -88,8 +88,8 @@ fn kind(alloc: Global, tokens: &mut Tokens<'_>) -> Result<Said, Trouble>
     if tokens.take_word("closed") {
         return Ok(Said::Closed);
     }
-    if tokens.take(Mark::ByRef) {
-        return Ok(Said::ByRef);
+    if tokens.take(Mark::Borrowed) {
+        return Ok(Said::Borrowed);
     }
     tokens.expect(alloc, Mark::Open, "open, closed or borrowed")?;
     Ok(Said::Open)

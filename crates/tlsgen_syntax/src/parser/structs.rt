@@ -31,8 +31,8 @@ fn kind(tokens: &mut Tokens<'_>) -> StructKind
     ensures read { signs_left tokens.old ≡ kind_then result (signs_left tokens.new) }
     ensures fewer { count_left tokens.new ≤ count_left tokens.old }
 {
-    if tokens.take(Mark::ByRef) {
-        return StructKind::ByRef;
+    if tokens.take(Mark::Borrowed) {
+        return StructKind::Borrowed;
     }
     if tokens.take(Mark::DigitallySigned) {
         return StructKind::Signed;

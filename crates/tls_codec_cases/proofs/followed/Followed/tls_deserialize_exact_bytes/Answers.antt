@@ -1,4 +1,4 @@
-use Rattle.std.proofs.Common.{arith, inl, rules, subst}
+use Rattle.std.proofs.Common.{arith, inl, subst}
 use Rattle.std.proofs.lemmas.Result.{err_from_is_err_and}
 use Rattle.tls_codec_grammar.specs.Grammar.{Reading}
 use Rattle.tls_codec_grammar.specs.Inside.{bytes_to_end_format}

@@ -2,7 +2,6 @@ use Rattle.std.proofs.Common.{◌∙◌, arith}
 use Rattle.std.proofs.lemmas.Result.{err_from_is_err_and}
 use Rattle.tls_codec_grammar.specs.laws.InsideLaws.{bytes_to_end_meet, inside_meets}
 use Rattle.tls_codec_grammar.proofs.Appending.{cut_off}
-use Rattle.tls_codec_base.proofs.PartsAppending.{appended_size, fields_appended}
 use Rattle.tls_codec_cases.proofs.UpToEnd.{inside_not_appended_first, inside_not_appended_rest}
 use Rattle.tls_codec_cases.proofs.followed.Followed.tls_serialize_into.Goals as goal
 

@@ -22,7 +22,7 @@ returns-then-not-are_zeros g c =
     let none = none_zeros c.in_ok-content.rest.now (λ all. search rules) in
     record {
       reads = inside_refused_rest content zeros_format (g.met.T.SizeFor.lawful context) c.in_ok-content.ensures.splits (inl none);
-      named = inr refl;
+      named = inr (refl, record { value = _; rest = _; begins = c.in_ok-content.ensures.splits; some = λ all. search rules });
     }
 
 pub returns-clause-reads : goal.returns-clause-reads

@@ -5,34 +5,34 @@ use Rattle.tls_codec_validate.proofs.Placing.{rejected_first, rejected_others}
 use Rattle.tls_codec_validate.proofs.Validating.{leaves, refuses, rejects}
 use Rattle.tls_codec_validate.proofs.contexts.Tuple3ValidateFor.tls_validate_prefix_for.Goals as goal
 
-pub returns-in_err-first-clause-validates : goal.returns-in_err-first-clause-validates
-returns-in_err-first-clause-validates g c k is =
+pub returns-in_err-after_first-clause-validates : goal.returns-in_err-after_first-clause-validates
+returns-in_err-after_first-clause-validates g c k is =
     let p = err_from_is_err_and c.from_residual.result c.from_residual.ensures.1 in
-    rw (p.1, p.2) (rejects (fields_refuses_first true (refuses {lean = true} (c.in_err-first.ensures.validates k is))))
+    rw (p.1, p.2) (rejects (fields_refuses_first true (refuses {lean = true} (c.in_err-after_first.ensures.validates k is))))
 
-pub returns-in_err-second-clause-validates : goal.returns-in_err-second-clause-validates
-returns-in_err-second-clause-validates g c k is =
-    let p = err_from_is_err_and c.from_residual-in_err-second.result c.from_residual-in_err-second.ensures.1 in
-    rw (p.1, p.2) (rejects (fields_refuses_others true (g.met.T.SizeFor.lawful k).spelled (c.in_ok-first.ensures.validates k is).begins (fields_refuses_first true (refuses {lean = true} (c.in_err-second.ensures.validates k is)))))
+pub returns-in_err-after_second-clause-validates : goal.returns-in_err-after_second-clause-validates
+returns-in_err-after_second-clause-validates g c k is =
+    let p = err_from_is_err_and c.from_residual-in_err-after_second.result c.from_residual-in_err-after_second.ensures.1 in
+    rw (p.1, p.2) (rejects (fields_refuses_others true (g.met.T.SizeFor.lawful k).spelled (c.in_ok-after_first.ensures.validates k is).begins (fields_refuses_first true (refuses {lean = true} (c.in_err-after_second.ensures.validates k is)))))
 
-pub returns-in_err-third-clause-validates : goal.returns-in_err-third-clause-validates
-returns-in_err-third-clause-validates g c k is =
-    let p = err_from_is_err_and c.from_residual-in_err-third.result c.from_residual-in_err-third.ensures.1 in
-    let behind = fields_refuses_others true (g.met.U.SizeFor.lawful k).spelled (c.in_ok-second.ensures.validates k is).begins (fields_refuses_first true (refuses {lean = true} (c.in_err-third.ensures.validates k is))) in
-    rw (p.1, p.2) (rejects (fields_refuses_others true (g.met.T.SizeFor.lawful k).spelled (c.in_ok-first.ensures.validates k is).begins behind))
+pub returns-in_err-after_third-clause-validates : goal.returns-in_err-after_third-clause-validates
+returns-in_err-after_third-clause-validates g c k is =
+    let p = err_from_is_err_and c.from_residual-in_err-after_third.result c.from_residual-in_err-after_third.ensures.1 in
+    let behind = fields_refuses_others true (g.met.U.SizeFor.lawful k).spelled (c.in_ok-after_second.ensures.validates k is).begins (fields_refuses_first true (refuses {lean = true} (c.in_err-after_third.ensures.validates k is))) in
+    rw (p.1, p.2) (rejects (fields_refuses_others true (g.met.T.SizeFor.lawful k).spelled (c.in_ok-after_first.ensures.validates k is).begins behind))
 
 pub returns-clause-validates : goal.returns-clause-validates
 returns-clause-validates g c k is =
-    leaves (fields_begins (c.in_ok-first.ensures.validates k is).begins (fields_begins (c.in_ok-second.ensures.validates k is).begins (fields_begins (c.in_ok-third.ensures.validates k is).begins (nothing_begins _))))
+    leaves (fields_begins (c.in_ok-after_first.ensures.validates k is).begins (fields_begins (c.in_ok-after_second.ensures.validates k is).begins (fields_begins (c.in_ok-after_third.ensures.validates k is).begins (nothing_begins _))))
 
-pub returns-in_err-second-clause-rejected : goal.returns-in_err-second-clause-rejected
-returns-in_err-second-clause-rejected g c k is =
-    let p = err_from_is_err_and c.from_residual-in_err-second.result c.from_residual-in_err-second.ensures.1 in
-    rw (p.1, p.2) (rejected_others (g.T.SizeFor.format_for k) (c.in_ok-first.ensures.validates k is).begins
-    (rejected_first (g.U.SizeFor.format_for k) (refuses (c.in_err-second.ensures.validates k is)) (c.in_err-second.ensures.rejected k is)))
+pub returns-in_err-after_second-clause-rejected : goal.returns-in_err-after_second-clause-rejected
+returns-in_err-after_second-clause-rejected g c k is =
+    let p = err_from_is_err_and c.from_residual-in_err-after_second.result c.from_residual-in_err-after_second.ensures.1 in
+    rw (p.1, p.2) (rejected_others (g.T.SizeFor.format_for k) (c.in_ok-after_first.ensures.validates k is).begins
+    (rejected_first (g.U.SizeFor.format_for k) (refuses (c.in_err-after_second.ensures.validates k is)) (c.in_err-after_second.ensures.rejected k is)))
 
-pub returns-in_err-third-clause-rejected : goal.returns-in_err-third-clause-rejected
-returns-in_err-third-clause-rejected g c k is =
-    let p = err_from_is_err_and c.from_residual-in_err-third.result c.from_residual-in_err-third.ensures.1 in
-    rw (p.1, p.2) (rejected_others (g.T.SizeFor.format_for k) (c.in_ok-first.ensures.validates k is).begins
-    (rejected_others (g.U.SizeFor.format_for k) (c.in_ok-second.ensures.validates k is).begins (c.in_err-third.ensures.rejected k is)))
+pub returns-in_err-after_third-clause-rejected : goal.returns-in_err-after_third-clause-rejected
+returns-in_err-after_third-clause-rejected g c k is =
+    let p = err_from_is_err_and c.from_residual-in_err-after_third.result c.from_residual-in_err-after_third.ensures.1 in
+    rw (p.1, p.2) (rejected_others (g.T.SizeFor.format_for k) (c.in_ok-after_first.ensures.validates k is).begins
+    (rejected_others (g.U.SizeFor.format_for k) (c.in_ok-after_second.ensures.validates k is).begins (c.in_err-after_third.ensures.rejected k is)))
