@@ -280,7 +280,7 @@ def about(crate: str) -> str:
 
 def numbers() -> list[tuple[str, bool, int]]:
     """The errors' names, whether they have a value, and their numbers."""
-    found = [(name, bool(value), int(number)) for name, value, number in NUMBER.findall(source_of("tls_codec_outcome", "numbers.rt"))]
+    found = [(name, bool(value), int(number)) for name, value, number in NUMBER.findall(source_of("tls_codec_outcome", "statuses.rt"))]
     if [number for _, _, number in found] != list(range(1, 11)) or {name for name, _, _ in found} - set(MEANINGS):
         raise Failed(f"the numbers of the errors are {found}")
     return found

@@ -26,7 +26,7 @@ use mls_group::{Commit, GroupContext, GroupInfo, GroupSecrets, Proposal, Welcome
 use mls_tree::{KeyPackage, LeafNode, RatchetTree};
 use std::alloc::Global;
 use tls_codec::DeserializeBytes;
-use tls_codec_outcome::{Outcome, check};
+use tls_codec_outcome::{Outcome, decode_check};
 
 /// `MLSMessage` (RFC 9420, section 6).
 #[unsafe(no_mangle)]
@@ -37,7 +37,7 @@ pub extern "C" fn mls_message_decode_check_prefix(alloc: Global, bytes: &[u8]) -
         result.detail }
     ensures at { result.at ≡ 0 }
 {
-    check::<MLSMessage>(alloc, bytes)
+    decode_check::<MLSMessage>(alloc, bytes)
 }
 
 /// `PublicMessage` (RFC 9420, section 6.2).
@@ -49,7 +49,7 @@ pub extern "C" fn mls_public_message_decode_check_prefix(alloc: Global, bytes: &
         result.detail }
     ensures at { result.at ≡ 0 }
 {
-    check::<PublicMessage>(alloc, bytes)
+    decode_check::<PublicMessage>(alloc, bytes)
 }
 
 /// `PrivateMessage` (RFC 9420, section 6.3).
@@ -61,7 +61,7 @@ pub extern "C" fn mls_private_message_decode_check_prefix(alloc: Global, bytes: 
         result.detail }
     ensures at { result.at ≡ 0 }
 {
-    check::<PrivateMessage>(alloc, bytes)
+    decode_check::<PrivateMessage>(alloc, bytes)
 }
 
 /// `FramedContent` (RFC 9420, section 6).
@@ -73,7 +73,7 @@ pub extern "C" fn mls_framed_content_decode_check_prefix(alloc: Global, bytes: &
         result.detail }
     ensures at { result.at ≡ 0 }
 {
-    check::<FramedContent>(alloc, bytes)
+    decode_check::<FramedContent>(alloc, bytes)
 }
 
 /// `SenderData` (RFC 9420, section 6.3.2).
@@ -85,7 +85,7 @@ pub extern "C" fn mls_sender_data_decode_check_prefix(alloc: Global, bytes: &[u8
         result.detail }
     ensures at { result.at ≡ 0 }
 {
-    check::<SenderData>(alloc, bytes)
+    decode_check::<SenderData>(alloc, bytes)
 }
 
 /// `Welcome` (RFC 9420, section 12.4.3.1).
@@ -97,7 +97,7 @@ pub extern "C" fn mls_welcome_decode_check_prefix(alloc: Global, bytes: &[u8]) -
         result.detail }
     ensures at { result.at ≡ 0 }
 {
-    check::<Welcome>(alloc, bytes)
+    decode_check::<Welcome>(alloc, bytes)
 }
 
 /// `GroupSecrets` (RFC 9420, section 12.4.3.1).
@@ -109,7 +109,7 @@ pub extern "C" fn mls_group_secrets_decode_check_prefix(alloc: Global, bytes: &[
         result.detail }
     ensures at { result.at ≡ 0 }
 {
-    check::<GroupSecrets>(alloc, bytes)
+    decode_check::<GroupSecrets>(alloc, bytes)
 }
 
 /// `GroupInfo` (RFC 9420, section 12.4.3).
@@ -121,7 +121,7 @@ pub extern "C" fn mls_group_info_decode_check_prefix(alloc: Global, bytes: &[u8]
         result.detail }
     ensures at { result.at ≡ 0 }
 {
-    check::<GroupInfo>(alloc, bytes)
+    decode_check::<GroupInfo>(alloc, bytes)
 }
 
 /// `GroupContext` (RFC 9420, section 8.1).
@@ -133,7 +133,7 @@ pub extern "C" fn mls_group_context_decode_check_prefix(alloc: Global, bytes: &[
         result.detail }
     ensures at { result.at ≡ 0 }
 {
-    check::<GroupContext>(alloc, bytes)
+    decode_check::<GroupContext>(alloc, bytes)
 }
 
 /// `Commit` (RFC 9420, section 12.4).
@@ -145,7 +145,7 @@ pub extern "C" fn mls_commit_decode_check_prefix(alloc: Global, bytes: &[u8]) ->
         result.detail }
     ensures at { result.at ≡ 0 }
 {
-    check::<Commit>(alloc, bytes)
+    decode_check::<Commit>(alloc, bytes)
 }
 
 /// `Proposal` (RFC 9420, section 12.1).
@@ -157,7 +157,7 @@ pub extern "C" fn mls_proposal_decode_check_prefix(alloc: Global, bytes: &[u8]) 
         result.detail }
     ensures at { result.at ≡ 0 }
 {
-    check::<Proposal>(alloc, bytes)
+    decode_check::<Proposal>(alloc, bytes)
 }
 
 /// `KeyPackage` (RFC 9420, section 10).
@@ -169,7 +169,7 @@ pub extern "C" fn mls_key_package_decode_check_prefix(alloc: Global, bytes: &[u8
         result.detail }
     ensures at { result.at ≡ 0 }
 {
-    check::<KeyPackage>(alloc, bytes)
+    decode_check::<KeyPackage>(alloc, bytes)
 }
 
 /// `LeafNode` (RFC 9420, section 7.2).
@@ -181,7 +181,7 @@ pub extern "C" fn mls_leaf_node_decode_check_prefix(alloc: Global, bytes: &[u8])
         result.detail }
     ensures at { result.at ≡ 0 }
 {
-    check::<LeafNode>(alloc, bytes)
+    decode_check::<LeafNode>(alloc, bytes)
 }
 
 /// `RatchetTree` (RFC 9420, section 12.4.3.3).
@@ -193,5 +193,5 @@ pub extern "C" fn mls_ratchet_tree_decode_check_prefix(alloc: Global, bytes: &[u
         result.detail }
     ensures at { result.at ≡ 0 }
 {
-    check::<RatchetTree>(alloc, bytes)
+    decode_check::<RatchetTree>(alloc, bytes)
 }

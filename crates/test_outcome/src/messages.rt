@@ -3,7 +3,7 @@ use mls::{FramedContent, MLSMessage, PrivateMessage, PublicMessage, SenderData};
 use mls_group::{Commit, GroupContext, GroupInfo, GroupSecrets, Proposal, Welcome};
 use mls_tree::{KeyPackage, LeafNode, RatchetTree};
 use std::alloc::Global;
-use tls_codec_outcome::{Outcome, check, validate};
+use tls_codec_outcome::{Outcome, decode_check, validate};
 use tls_codec_validate::Validate;
 
 /// What the validator and the decoder of a message say of some bytes. None: no message has this name.
@@ -32,5 +32,5 @@ pub fn validated_and_decoded(
 }
 
 fn outcomes_of<T: Validate + Drop>(alloc: Global, bytes: &[u8]) -> (Outcome, Outcome) {
-    (validate::<T>(bytes), check::<T>(alloc, bytes))
+    (validate::<T>(bytes), decode_check::<T>(alloc, bytes))
 }

@@ -21,7 +21,7 @@ ghost use Rattle.tls_codec_outcome.specs.Outcomes.{DecidesInMemory, IsNamed, IsT
 
 use std::alloc::Global;
 use tls_codec::DeserializeBytes;
-use tls_codec_outcome::{Outcome, check};
+use tls_codec_outcome::{Outcome, decode_check};
 use tls13::{
     Alert, Certificate, CertificateRequest, CertificateVerify, ClientHello, EncryptedExtensions,
     Handshake, KeyUpdate, NewSessionTicket, ServerHello, TLSCiphertext, TLSPlaintext,
@@ -36,7 +36,7 @@ pub extern "C" fn tls13_tls_plaintext_decode_check_prefix(alloc: Global, bytes: 
         result.detail }
     ensures at { result.at ≡ 0 }
 {
-    check::<TLSPlaintext>(alloc, bytes)
+    decode_check::<TLSPlaintext>(alloc, bytes)
 }
 
 /// `TLSCiphertext` (RFC 8446, section 5.2).
@@ -48,7 +48,7 @@ pub extern "C" fn tls13_tls_ciphertext_decode_check_prefix(alloc: Global, bytes:
         result.detail }
     ensures at { result.at ≡ 0 }
 {
-    check::<TLSCiphertext>(alloc, bytes)
+    decode_check::<TLSCiphertext>(alloc, bytes)
 }
 
 /// `Alert` (RFC 8446, section 6).
@@ -60,7 +60,7 @@ pub extern "C" fn tls13_alert_decode_check_prefix(alloc: Global, bytes: &[u8]) -
         result.detail }
     ensures at { result.at ≡ 0 }
 {
-    check::<Alert>(alloc, bytes)
+    decode_check::<Alert>(alloc, bytes)
 }
 
 /// `Handshake` (RFC 8446, section 4).
@@ -72,7 +72,7 @@ pub extern "C" fn tls13_handshake_decode_check_prefix(alloc: Global, bytes: &[u8
         result.detail }
     ensures at { result.at ≡ 0 }
 {
-    check::<Handshake>(alloc, bytes)
+    decode_check::<Handshake>(alloc, bytes)
 }
 
 /// `ClientHello` (RFC 8446, section 4.1.2).
@@ -84,7 +84,7 @@ pub extern "C" fn tls13_client_hello_decode_check_prefix(alloc: Global, bytes: &
         result.detail }
     ensures at { result.at ≡ 0 }
 {
-    check::<ClientHello>(alloc, bytes)
+    decode_check::<ClientHello>(alloc, bytes)
 }
 
 /// `ServerHello` (RFC 8446, section 4.1.3).
@@ -96,7 +96,7 @@ pub extern "C" fn tls13_server_hello_decode_check_prefix(alloc: Global, bytes: &
         result.detail }
     ensures at { result.at ≡ 0 }
 {
-    check::<ServerHello>(alloc, bytes)
+    decode_check::<ServerHello>(alloc, bytes)
 }
 
 /// `EncryptedExtensions` (RFC 8446, section 4.3.1).
@@ -112,7 +112,7 @@ pub extern "C" fn tls13_encrypted_extensions_decode_check_prefix(
         result.detail }
     ensures at { result.at ≡ 0 }
 {
-    check::<EncryptedExtensions>(alloc, bytes)
+    decode_check::<EncryptedExtensions>(alloc, bytes)
 }
 
 /// `CertificateRequest` (RFC 8446, section 4.3.2).
@@ -128,7 +128,7 @@ pub extern "C" fn tls13_certificate_request_decode_check_prefix(
         result.detail }
     ensures at { result.at ≡ 0 }
 {
-    check::<CertificateRequest>(alloc, bytes)
+    decode_check::<CertificateRequest>(alloc, bytes)
 }
 
 /// `Certificate` (RFC 8446, section 4.4.2).
@@ -140,7 +140,7 @@ pub extern "C" fn tls13_certificate_decode_check_prefix(alloc: Global, bytes: &[
         result.detail }
     ensures at { result.at ≡ 0 }
 {
-    check::<Certificate>(alloc, bytes)
+    decode_check::<Certificate>(alloc, bytes)
 }
 
 /// `CertificateVerify` (RFC 8446, section 4.4.3).
@@ -155,7 +155,7 @@ pub extern "C" fn tls13_certificate_verify_decode_check_prefix(
         result.detail }
     ensures at { result.at ≡ 0 }
 {
-    check::<CertificateVerify>(alloc, bytes)
+    decode_check::<CertificateVerify>(alloc, bytes)
 }
 
 /// `NewSessionTicket` (RFC 8446, section 4.6.1).
@@ -170,7 +170,7 @@ pub extern "C" fn tls13_new_session_ticket_decode_check_prefix(
         result.detail }
     ensures at { result.at ≡ 0 }
 {
-    check::<NewSessionTicket>(alloc, bytes)
+    decode_check::<NewSessionTicket>(alloc, bytes)
 }
 
 /// `KeyUpdate` (RFC 8446, section 4.6.3).
@@ -182,5 +182,5 @@ pub extern "C" fn tls13_key_update_decode_check_prefix(alloc: Global, bytes: &[u
         result.detail }
     ensures at { result.at ≡ 0 }
 {
-    check::<KeyUpdate>(alloc, bytes)
+    decode_check::<KeyUpdate>(alloc, bytes)
 }

@@ -48,7 +48,8 @@ impl Deserialize for String {
 
     /// `EndOfStream`: there is no whole length, or fewer bytes come than it declares.
     /// `InvalidVectorLength`: the length has more bytes than it needs, or more than 30 bits.
-    /// `DecodingError("invalid utf8")`: the bytes are not valid UTF-8.
+    /// `DecodingError("invalid utf8")`: the bytes are not valid UTF-8. `OutOfMemory`: allocation
+    /// failed. Every other error is the source's.
     #[inline(always)]
     fn tls_deserialize<R: Source>(alloc: Global, bytes: &mut R) -> Result<String, Error> {
         let content = opaque::read::<TlsVarInt, R>(alloc, bytes)?;
@@ -65,7 +66,7 @@ impl DeserializeBytes for String {
     /// `InvalidVectorLength`: the length has more bytes than it needs, or more than 30 bits.
     /// `EndOfStream`: there is no whole length. `DecodingError("declared content is not there")`:
     /// fewer bytes come after it than it declares. `DecodingError("invalid utf8")`: the bytes are
-    /// not valid UTF-8.
+    /// not valid UTF-8. `OutOfMemory`: allocation failed.
     #[inline(always)]
     fn tls_deserialize_bytes(alloc: Global, bytes: &[u8]) -> Result<(String, &[u8]), Error> {
         let (content, rest) = opaque::split::<TlsVarInt>(bytes)?;
@@ -105,6 +106,8 @@ impl Serialize for &str {
 }
 
 impl SerializeBytes for &str {
+    /// `InvalidVectorLength`: there are more bytes than the greatest length. `OutOfMemory`:
+    /// allocation failed.
     fn tls_serialize_bytes(&self, alloc: Global) -> Result<Vec<u8>, Error> {
         opaque::to_vec::<TlsVarInt>(alloc, self.as_bytes())
     }

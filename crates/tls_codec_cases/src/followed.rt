@@ -62,7 +62,7 @@ impl<T> Followed<T> {
     {
         let at = out.len();
         let sent = self.content.tls_serialize_into(out)?;
-        match append_bytes(&self.rest, out) {
+        match append_rest(&self.rest, out) {
             Ok(rest) => Ok(sent.saturating_add(rest)),
             Err(error) => {
                 out.truncate(at);
@@ -73,7 +73,7 @@ impl<T> Followed<T> {
 }
 
 /// Appends these bytes, and returns how many they are.
-pub(crate) fn append_bytes(bytes: &Vec<u8>, out: &mut Vec<u8>) -> Result<usize, Error>
+pub(crate) fn append_rest(bytes: &Vec<u8>, out: &mut Vec<u8>) -> Result<usize, Error>
     ensures appends { AppendsForm bytes_to_end_format (number_trees bytes.now.items) out.old.items
         out.new.items result }
 {

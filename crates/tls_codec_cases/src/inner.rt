@@ -6,7 +6,7 @@ ghost use Rattle.tls_codec_grammar.specs.Tree.{Join, Number};
 ghost use Rattle.tls_codec_cases.specs.Inner.{EndsIn, IsNonzero, RefusesInner, inner_format, inner_plain, nonzero_format};
 ghost use Rattle.tls_codec_cases.specs.Padded.{padded_format};
 
-use crate::followed::append_bytes;
+use crate::followed::append_rest;
 use crate::padded::append_zeros;
 use std::alloc::Global;
 use tls_codec_base::{DeserializeBytes, Serialize, Size};
@@ -78,7 +78,7 @@ impl<T> InnerPlaintext<T> {
             out.old.items out.new.items result }
     {
         let at = out.len();
-        let content = append_bytes(&self.content, out)?;
+        let content = append_rest(&self.content, out)?;
         match append_ending(&self.kind, self.padding, out) {
             Ok(ending) => Ok(content.saturating_add(ending)),
             Err(error) => {

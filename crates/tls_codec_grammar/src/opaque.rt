@@ -64,7 +64,7 @@ pub fn append<F: LengthField>(out: &mut Vec<u8>, content: &[u8]) -> Result<usize
 
 /// The canonical encoding of some bytes.
 ///
-/// `InvalidVectorLength`: the field doesn't hold their number.
+/// `InvalidVectorLength`: the field doesn't hold their number. `OutOfMemory`: allocation failed.
 pub fn to_vec<F: LengthField>(alloc: Global, content: &[u8]) -> Result<Vec<u8>, Error>
     ensures makes { Makes (counted_bytes_format F.field) (number_trees content.now) result }
     ensures out_of_bounds { (counted_bytes_format F.field).out_of_bounds (number_trees content.now)

@@ -3,8 +3,8 @@ ghost use Rattle.std.specs.Prelude.{◌≡◌, ◌-◌, length};
 ghost use Rattle.tls_codec_outcome.specs.Numbers.{detail_number, status_number};
 ghost use Rattle.tls_codec_outcome.specs.Outcomes.{Decides, DecidesInMemory, IsNamed, IsRejection, IsTaken};
 
-use crate::numbers::{detail_of, status_of};
 use crate::outcome::{ACCEPTED, Outcome};
+use crate::statuses::{detail_of, status_of};
 use std::alloc::Global;
 use tls_codec_base::DeserializeBytes;
 use tls_codec_validate::Validate;
@@ -29,7 +29,7 @@ pub fn validate<T: Validate>(bytes: &[u8]) -> Outcome
 /// The same by the decoder, which makes the value and drops it. It reports no place, so `at` is 0.
 ///
 /// `OutOfMemory`: allocation failed, and nothing is said of the bytes.
-pub fn check<T: DeserializeBytes>(alloc: Global, bytes: &[u8]) -> Outcome
+pub fn decode_check<T: DeserializeBytes>(alloc: Global, bytes: &[u8]) -> Outcome
     ensures status { DecidesInMemory T.format bytes.now result.status }
     ensures taken { IsTaken T.format bytes.now result.status result.taken }
     ensures detail { IsNamed T.names bytes.now result.status result.detail }

@@ -98,8 +98,8 @@ impl Keyed for u16 {
 
 impl TagKeyed for u16 {
     #[inline(always)]
-    fn tag_of_key(tag: &u64) -> u64 {
-        *tag
+    fn tag_of_key(key: &u64) -> u64 {
+        *key
     }
 }
 

@@ -37,7 +37,7 @@ impl From<Rejected<'_>> for Error {
     }
 }
 
-/// What is found in the bytes, or that their first field is rejected.
+/// What is found at the front of the bytes, or that they are rejected there, at position 0 of them.
 #[inline(always)]
 pub(crate) fn or_rejected<T>(found: Result<T, Error>, bytes: &[u8]) -> Result<T, Rejected<'_>>
     ensures ok { IfOk result (λ value. found ≡ Ok value) }

@@ -4,8 +4,8 @@ ghost use Rattle.std.specs.List.{All};
 
 /// A value that can be cleared in place, as key material is before it is dropped.
 ///
-/// Each type says what "cleared" is: an integer is 0, an array holds zeros, a list is empty after each of
-/// its elements was cleared. A type of your own says it too.
+/// Each type says what "cleared" is: an integer is 0, an array holds zeros, a list is empty. A list clears
+/// its elements first, which is tested, and not part of its contract. A type of your own says it too.
 ///
 /// Nothing is promised of freed memory, since the compiler may leave out stores that nothing reads. Nor is
 /// it of copies that were made before.

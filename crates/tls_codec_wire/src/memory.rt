@@ -43,9 +43,9 @@ impl Source for &[u8] {
         if n > self.len() {
             return Fill::TooFew;
         }
-        let (front, left) = self.split_at(n);
+        let (front, rest) = self.split_at(n);
         into.copy_from_slice(front);
-        *self = left;
+        *self = rest;
         Fill::Full
     }
 
@@ -54,18 +54,18 @@ impl Source for &[u8] {
         if n > self.len() || n > out.capacity() - out.len() {
             return false;
         }
-        let (front, left) = self.split_at(n);
+        let (front, rest) = self.split_at(n);
         let _ = out.extend_from_slice(front);
-        *self = left;
+        *self = rest;
         true
     }
 
     #[inline(always)]
     fn pull_onto(&mut self, out: &mut Vec<u8>, most: usize) -> Result<usize, Fault> {
         let n = self.len().min(most).min(out.capacity() - out.len());
-        let (front, after) = self.split_at(n);
+        let (front, rest) = self.split_at(n);
         let _ = out.extend_from_slice(front);
-        *self = after;
+        *self = rest;
         Ok(n)
     }
 

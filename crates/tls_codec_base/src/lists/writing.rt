@@ -65,8 +65,8 @@ pub fn append<T: Serialize>(out: &mut Vec<u8>, elements: &[T]) -> Result<usize, 
 /// Appends the elements' canonical encodings in a row, each made by `tls_serialize_bytes`, and
 /// returns how many bytes that is.
 ///
-/// An error is an element's, or `InvalidVectorLength` if the vector would pass `isize::MAX` bytes.
-/// It leaves the vector's bytes as they were.
+/// An error is an element's, `InvalidVectorLength` if the vector would pass `isize::MAX` bytes, or
+/// `OutOfMemory`. It leaves the vector's bytes as they were.
 pub fn append_bytes<T: SerializeBytes>(
     alloc: Global,
     out: &mut Vec<u8>,

@@ -1,7 +1,7 @@
 use Rattle.std.proofs.Common.{◌≡◌, ◌++◌, length, rules}
 use Rattle.tls_codec_wire.specs.Digits.{AreBytes}
 use Rattle.tls_codec_cases.proofs.UpToEnd.{bytes_appended}
-use Rattle.tls_codec_cases.proofs.followed.append_bytes.Goals as goal
+use Rattle.tls_codec_cases.proofs.followed.append_rest.Goals as goal
 
 pub returns : goal.returns
 returns c =
