@@ -2,7 +2,7 @@
 use Rattle.std.specs.Prelude.{◌≡◌, ◌<◌, ◌++◌, ℕ, List, ◌∷◌, Option, Some, None, length, drop}
 use Rattle.std.specs.Int.{w16, to_be_bytes}
 use Rattle.mls.specs.FramedContentTBS.{framed_content_tbs_format}
-use Rattle.tls_codec_base.specs.Refusals.{SliceNames}
+use Rattle.tls_codec_base.specs.PartNames.{SliceNames}
 use Rattle.tls_codec_validate.specs.Places.{PlacedNames}
 use Rattle.tls_codec_outcome.specs.declared.outcome.Outcome.{Outcome}
 use Rattle.tls_codec_outcome.specs.Outcomes.{Decides, IsRejection, IsTaken}

@@ -5,4 +5,4 @@ pub use Rattle.tls_codec_wire.specs.declared.device.Fault.{Fault}
 pub use Rattle.tls_codec_wire.specs.declared.device.Fault.TheVariants.{Failed, Interrupted, NoMemory}
 pub use Rattle.tls_codec_wire.specs.declared.device.Fill.TheVariants.{Full, TooFew, Unknown}
 pub use Rattle.tls_codec_wire.specs.Transfer.{IsShortOf}
-pub use Rattle.tls_codec_wire.specs.Refused.{Causes, RefusedFor, Seen, reported_or}
+pub use Rattle.tls_codec_wire.specs.Seen.{Causes, RefusedFor, Seen, reported_or}

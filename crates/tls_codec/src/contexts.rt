@@ -8,7 +8,7 @@ ghost use Rattle.tls_codec_grammar.specs.Contexts.{present_format, then_format};
 ghost use Rattle.tls_codec_grammar.specs.Format.{counted_list_format, list_format, pair_format, triple_format};
 ghost use Rattle.tls_codec_base.specs.ContextNames.{then_names, then_source_names};
 ghost use Rattle.tls_codec_base.specs.Meanings.{Means, SameFormat, SameNames, SameSourceNames};
-ghost use Rattle.tls_codec_base.specs.Refusals.{counted_list_names, counted_list_source_names, fields_names, fields_source_names, list_names, list_source_names};
+ghost use Rattle.tls_codec_base.specs.PartNames.{counted_list_names, counted_list_source_names, fields_names, fields_source_names, list_names, list_source_names};
 ghost use Rattle.tls_codec_base.specs.OwnMessages.{pair_tree};
 
 use tls_codec_base::{

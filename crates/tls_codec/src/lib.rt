@@ -25,7 +25,7 @@
 //!   [`When`], a part that is there or not, by a [`Condition`]; and [`context`] for the rest.
 //! - [`unknown_value`]: the error for a tag that an enum of your own doesn't have. [`reserve_encoding`]:
 //!   room for a whole encoding at once.
-//! - [`laws`]: what holds of the encodings of every type with the traits. [`refusals`]: where two
+//! - [`laws`]: what holds of the encodings of every type with the traits. [`error_laws`]: where two
 //!   errors come from.
 #![tactic(auto)]
 
@@ -37,7 +37,7 @@ pub use tls_codec_base::{
     Always, ByRef, ByRef2, ByRef3, ByRef4, ByRef5, ByRef6, ByRef7, ByRef8, ByRef9, ByRefIn,
     ByRefThen, ByRefThen2, ByRefWhen, Condition, Deserialize, DeserializeBytes,
     DeserializeBytesFor, DeserializeFor, LengthField, Serialize, SerializeBytes, SerializeFor,
-    Size, SizeFor, Then, When, Within, context, deserialize_to_end, laws, lists, refusals,
+    Size, SizeFor, Then, When, Within, context, deserialize_to_end, error_laws, laws, lists,
     reserve_encoding, unknown_value,
 };
 pub use tls_codec_bytes::{TlsByteVec, TlsByteVecU8, TlsByteVecU16, TlsByteVecU24, TlsByteVecU32};

@@ -15,7 +15,7 @@ ghost use Rattle.tls_codec_grammar.specs.Tree.{Empty, Join, Number, number_trees
 ghost use Rattle.tls_codec_grammar.specs.Field.{bounded_field, fixed_field, variable_field};
 ghost use Rattle.tls_codec_grammar.specs.Format.{array_format, bytes_format, counted_bytes_format, counted_list_format, fixed_list_format, list_format, nothing_format, number_format, option_format, pair_format, text_format, triple_format, varint_format, with_memory};
 ghost use Rattle.tls_codec_grammar.specs.Opaque.{OpaqueCopyRefused, OpaqueSourceRefused, TextRefused, TextSourceRefused};
-ghost use Rattle.tls_codec_base.specs.Refusals.{box_names, box_source_names, counted_list_names, counted_list_source_names, fields_names, fields_source_names, list_names, list_source_names, option_names, option_source_names};
+ghost use Rattle.tls_codec_base.specs.PartNames.{box_names, box_source_names, counted_list_names, counted_list_source_names, fields_names, fields_source_names, list_names, list_source_names, option_names, option_source_names};
 ghost use Rattle.tls_codec_base.specs.Meanings.{Means, SameField, SameNames, SameSourceNames, too_few};
 ghost use Rattle.tls_codec_base.specs.OwnMessages.{bounded_bytes_format, bounded_list_format, fixed_bytes_format, pair_tree, triple_tree};
 ghost use Rattle.tls_codec_slice.specs.Contents.{u16_bytes_of, u16_elements_of, u24_bytes_of, u24_elements_of, u32_bytes_of, u32_elements_of, u8_bytes_of, u8_elements_of};

@@ -58,5 +58,5 @@ module _ (spells : Grammar) (x : List ℕ) where
 pub was_first : {T S : Type 0} {f : Format} {plain : T → Tree} {source : Ghosts S} {x : List ℕ} {old new : S} {from_slice : Result (T × Bor (List ℕ)) Error} {v : T} → GivesFromFront source.given source.coming
     → BothRead f plain source x old new from_slice (Ok v) → (rest : List ℕ) × (source.coming new ≡ Some rest) × Begins f.spells x (plain v) rest
 was_first {f} {plain} {source} {x} {old} {new} {v} from_front b =
-    let took = subst (λ (u : Option (List ℕ)). Consumes u (source.coming new) b.reads.front) b.told (from_front old b.reads.front new b.reads.held) in
+    let took = subst (λ (u : Option (List ℕ)). Consumes u (source.coming new) b.reads.front) b.reported (from_front old b.reads.front new b.reads.held) in
     told_first f.spells x b.reads.front (plain v) (source.coming new) took b.reads.spelled

@@ -1,11 +1,11 @@
 -- What is read and written of the parts of a variant, whose tag is read elsewhere.
 use Rattle.std.proofs.Common.{ℕ, List, Result, Ok, Err, inl, inr, refl, subst}
 use Rattle.tls_codec_wire.specs.Counts.{Counts}
-use Rattle.tls_codec_wire.specs.Refused.{Causes}
+use Rattle.tls_codec_wire.specs.Seen.{Causes}
 use Rattle.tls_codec_wire.specs.declared.device.Sink.{Ghosts as SinkGhosts}
 use Rattle.tls_codec_wire.specs.declared.device.Source.{Ghosts}
 use Rattle.tls_codec_wire.specs.declared.error.Error.{Error}
-use Rattle.tls_codec_wire.proofs.Refused.{refused_so}
+use Rattle.tls_codec_wire.proofs.Seen.{refused_so}
 use Rattle.tls_codec_grammar.specs.Tree.{Tree, Number, Join}
 use Rattle.tls_codec_grammar.specs.Grammar.{Reading}
 use Rattle.tls_codec_grammar.specs.Tagged.{MeetsVariantLaws, Variants}

@@ -2,12 +2,12 @@
 use Rattle.std.proofs.Common.{ℕ, List, ◌++◌, Option, None, Some, refl}
 use Rattle.std.specs.Io.KnownBytes.{Consumes}
 use Rattle.tls_codec_wire.specs.Counts.{Counts, NoneFell}
-use Rattle.tls_codec_wire.specs.Refused.{Causes}
+use Rattle.tls_codec_wire.specs.Seen.{Causes}
 use Rattle.tls_codec_wire.specs.declared.error.Error.{Error}
 use Rattle.tls_codec_grammar.specs.Tree.{Tree}
 use Rattle.tls_codec_grammar.specs.Grammar.{Grammar, Reading}
 use Rattle.tls_codec_grammar.specs.Decoding.{ComesFirst}
-use Rattle.tls_codec_base.specs.Refusals.{SourceNamedAfter}
+use Rattle.tls_codec_base.specs.PartNames.{SourceNamedAfter}
 
 -- the bytes that it tells begin with what it gave
 pub comes_first : (spells : Grammar) (old new : Option (List ℕ)) (front : List ℕ) (v : Tree) → Consumes old new front → spells Reading front v → ComesFirst spells old v new

@@ -6,12 +6,12 @@ use Rattle.tls_codec_wire.specs.Bounded.{GaveWithin, inner_of, limit_of}
 use Rattle.tls_codec_wire.specs.Counts.{Counts}
 use Rattle.tls_codec_wire.specs.Device.{GivesNothing}
 use Rattle.tls_codec_wire.specs.Numbers.{BeginsNumber}
-use Rattle.tls_codec_wire.specs.Refused.{Causes, within}
+use Rattle.tls_codec_wire.specs.Seen.{Causes, within}
 use Rattle.tls_codec_wire.specs.declared.bounded.Bounded.{Bounded}
 use Rattle.tls_codec_wire.specs.declared.device.Source.{Ghosts}
 use Rattle.tls_codec_wire.specs.declared.error.Error.{Error}
 use Rattle.tls_codec_wire.specs.declared.error.Error.TheVariants.{TrailingData}
-use Rattle.tls_codec_wire.proofs.Refused.{refused_now, refused_within}
+use Rattle.tls_codec_wire.proofs.Seen.{refused_now, refused_within}
 use Rattle.tls_codec_grammar.specs.Tree.{Tree}
 use Rattle.tls_codec_grammar.specs.Grammar.{Grammar, Reading, counted, sized}
 use Rattle.tls_codec_grammar.specs.Field.{Field}
@@ -22,7 +22,7 @@ use Rattle.tls_codec_grammar.specs.laws.RowLaws.{split_at}
 use Rattle.tls_codec_grammar.proofs.ByteContents.{sized_short}
 use Rattle.tls_codec_grammar.proofs.CountedDecoding.{counted_begins, counted_none_at_inside}
 use Rattle.tls_codec_base.specs.ContextNames.{Underfills, enclosed_names, filling_names, filling_source_names}
-use Rattle.tls_codec_base.specs.Refusals.{SliceNames}
+use Rattle.tls_codec_base.specs.PartNames.{SliceNames}
 use Rattle.tls_codec_base.proofs.Whole.{begins_whole, refuses_whole}
 
 -- so many bytes that are no spelling begin with none

@@ -3,16 +3,16 @@ use Rattle.std.proofs.Common.{◌≡◌, ℕ, List, [], ◌++◌, Bool, true, fa
 use Rattle.std.proofs.lemmas.List.{append_cancel_left}
 use Rattle.tls_codec_wire.specs.Counts.{Counts, NoneFell}
 use Rattle.tls_codec_wire.specs.Device.{GivesInOrder, GivesNothing, NoCountFalls}
-use Rattle.tls_codec_wire.specs.Refused.{Causes}
+use Rattle.tls_codec_wire.specs.Seen.{Causes}
 use Rattle.tls_codec_wire.specs.declared.device.Source.{Ghosts}
 use Rattle.tls_codec_wire.specs.declared.error.Error.{Error}
-use Rattle.tls_codec_wire.proofs.Refused.{refused_later, refused_so}
+use Rattle.tls_codec_wire.proofs.Seen.{refused_later, refused_so}
 use Rattle.tls_codec_grammar.specs.Tree.{Tree, Empty, Join}
 use Rattle.tls_codec_grammar.specs.Grammar.{Grammar, Reading, nothing, fields}
 use Rattle.tls_codec_grammar.specs.Lawful.{IsLawful, MeetsLaws}
 use Rattle.tls_codec_grammar.specs.Format.{Format, fields_format, nothing_format}
 use Rattle.tls_codec_grammar.specs.Decoding.{Begins, GaveSpelling, Named, NoneBegins, Refuses, RefusesFromSource, RefusesSeen}
-use Rattle.tls_codec_base.specs.Refusals.{IsSpelling, NamedAfter, SliceNames, fields_source_names}
+use Rattle.tls_codec_base.specs.PartNames.{IsSpelling, NamedAfter, SliceNames, fields_source_names}
 use Rattle.tls_codec_base.proofs.Coming.{named_after}
 use Rattle.tls_codec_wire.proofs.Later.{fault_later, rose_later}
 

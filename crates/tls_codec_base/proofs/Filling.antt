@@ -4,7 +4,7 @@ use Rattle.std.specs.Prelude.{Ok, Err, Vec, Result}
 use Rattle.std.specs.Global.{Global}
 use Rattle.tls_codec_wire.specs.Bounded.{BorrowAlike, GaveWithin, inner_of, limit_of}
 use Rattle.tls_codec_wire.specs.Device.{Gave, GivesInOrder, NoCountFalls}
-use Rattle.tls_codec_wire.specs.Refused.{Causes, RefusedFor}
+use Rattle.tls_codec_wire.specs.Seen.{Causes, RefusedFor}
 use Rattle.tls_codec_wire.specs.declared.bounded.Bounded.{Bounded}
 use Rattle.tls_codec_wire.specs.declared.device.Source.{Ghosts}
 use Rattle.tls_codec_wire.specs.declared.error.Error.{Error}
@@ -14,7 +14,7 @@ use Rattle.tls_codec_grammar.specs.Lawful.{IsLawful}
 use Rattle.tls_codec_grammar.specs.Decoding.{AllGiven}
 use Rattle.tls_codec_grammar.proofs.Named.{named_leaves}
 use Rattle.tls_codec_base.specs.Filling.{FillsLimit}
-use Rattle.tls_codec_base.specs.Refusals.{NamedWithin}
+use Rattle.tls_codec_base.specs.PartNames.{NamedWithin}
 use Rattle.tls_codec_base.specs.Turns.{MemoryOrFault, TurnedAll, TurnedBy, TurnedEach, TurnedRefusedAtOnce}
 use Rattle.tls_codec_base.specs.WholeElements.{NoElementBegins}
 use Rattle.tls_codec_base.specs.declared.lists.Turns.{Turns}

@@ -8,7 +8,7 @@ use Rattle.tls_codec_grammar.specs.Lawful.{IsLawful}
 use Rattle.tls_codec_grammar.specs.Decoding.{Begins, NoMemoryFor, NoneBegins, Refuses}
 use Rattle.tls_codec_grammar.specs.Shortest.{IsHollow}
 use Rattle.tls_codec_grammar.specs.Format.{Format}
-use Rattle.tls_codec_base.specs.Refusals.{Overruns, SliceNames, element_names, elements_names}
+use Rattle.tls_codec_base.specs.PartNames.{Overruns, SliceNames, element_names, elements_names}
 
 -- the front of x is a content of v, and left of n bytes are still to be read
 pub record ReadSoFar (element : Grammar) (x : List ℕ) (n left : ℕ) (v : Tree) (rest : List ℕ) : Type 0 where

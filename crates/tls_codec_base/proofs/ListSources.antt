@@ -7,7 +7,7 @@ use Rattle.tls_codec_wire.specs.declared.bounded.Bounded.{Bounded}
 use Rattle.tls_codec_wire.specs.declared.error.Error.{Error}
 use Rattle.tls_codec_wire.specs.Bounded.{GaveWithin, inner_of, limit_of}
 use Rattle.tls_codec_wire.specs.Device.{GivesInOrder, GivesNothing, NoCountFalls}
-use Rattle.tls_codec_wire.specs.Refused.{Causes, RefusedFor, within}
+use Rattle.tls_codec_wire.specs.Seen.{Causes, RefusedFor, within}
 use Rattle.tls_codec_wire.specs.declared.device.Source.{Ghosts}
 use Rattle.tls_codec_wire.specs.declared.error.Error.TheVariants.{OutOfMemory}
 use Rattle.tls_codec_grammar.specs.Tree.{Tree, trees}
@@ -18,10 +18,10 @@ use Rattle.tls_codec_grammar.specs.Errors.{Says}
 use Rattle.tls_codec_base.proofs.ListReading.{ReadSoFar, content_more, next_of, none_if_empty}
 use Rattle.tls_codec_grammar.specs.Shortest.{IsHollow}
 use Rattle.tls_codec_grammar.specs.Format.{Format, content_format, sized_format}
-use Rattle.tls_codec_base.specs.Refusals.{IsRun, elements_source_names}
+use Rattle.tls_codec_base.specs.PartNames.{IsRun, elements_source_names}
 use Rattle.tls_codec_base.proofs.Coming.{named_after}
 use Rattle.tls_codec_wire.proofs.Later.{fault_later}
-use Rattle.tls_codec_wire.proofs.Refused.{refused_later, refused_now, refused_within}
+use Rattle.tls_codec_wire.proofs.Seen.{refused_later, refused_now, refused_within}
 
 -- the source gave a content of v, and left of n bytes are still to be read
 pub record GivenSoFar {S : Type 0} (given : S → List ℕ → S → Type 0) (element : Grammar) (old new : S) (n left : ℕ) (v : Tree) : Type 0 where

@@ -2,16 +2,16 @@
 use Rattle.std.proofs.Common.{◌≡◌, ℕ, List, ◌++◌, false, Result, Ok, Err, inl, inr, refl}
 use Rattle.std.specs.Prelude.{IfErr, IfOk}
 use Rattle.tls_codec_wire.specs.Device.{GivesNothing}
-use Rattle.tls_codec_wire.specs.Refused.{Causes}
+use Rattle.tls_codec_wire.specs.Seen.{Causes}
 use Rattle.tls_codec_wire.specs.declared.device.Source.{Ghosts}
 use Rattle.tls_codec_wire.specs.declared.error.Error.{Error}
 use Rattle.tls_codec_wire.specs.declared.error.Error.TheVariants.{OutOfMemory}
-use Rattle.tls_codec_wire.proofs.Refused.{refused_now}
+use Rattle.tls_codec_wire.proofs.Seen.{refused_now}
 use Rattle.tls_codec_grammar.specs.Tree.{Tree}
 use Rattle.tls_codec_grammar.specs.Format.{Format, with_memory}
 use Rattle.tls_codec_grammar.specs.Decoding.{GaveSpelling, Named, Reads}
 use Rattle.tls_codec_grammar.proofs.Named.{named_leaves}
-use Rattle.tls_codec_base.specs.Refusals.{box_source_names}
+use Rattle.tls_codec_base.specs.PartNames.{box_source_names}
 
 pub without_memory : {S : Type 0} {source : Ghosts S} (f : Format) (names : Causes) {a b : S} {v : Tree} {e : Error} → GivesNothing source.given → (p : GaveSpelling source.given f.spells a b v) → f.lean ≡ false → e ≡ OutOfMemory
     → ((rest : List ℕ) → names (p.front ++ rest) (source.counts a) (source.counts b) e) → Named f names source a b e

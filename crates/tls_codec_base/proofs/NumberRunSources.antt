@@ -10,7 +10,7 @@ use Rattle.tls_codec_wire.specs.Bounded.{first_bytes, GaveWithin, inner_of, limi
 use Rattle.tls_codec_wire.specs.Counts.{Counts, none_fell_refl}
 use Rattle.tls_codec_wire.specs.Device.{GivesFromFront, GivesInOrder, GivesNothing}
 use Rattle.tls_codec_wire.specs.Digits.{AreBytes, value}
-use Rattle.tls_codec_wire.specs.Refused.{RefusedFor, within}
+use Rattle.tls_codec_wire.specs.Seen.{RefusedFor, within}
 use Rattle.tls_codec_wire.specs.Transfer.{BytesRefused, ReadRefused}
 use Rattle.tls_codec_wire.specs.declared.bounded.Bounded.{Bounded}
 use Rattle.tls_codec_wire.specs.declared.device.Source.{Ghosts}
@@ -18,14 +18,14 @@ use Rattle.tls_codec_wire.specs.declared.error.Error.{Error}
 use Rattle.tls_codec_wire.specs.declared.error.Error.TheVariants.{DecodingError, EndOfStream, InvalidVectorLength, OutOfMemory}
 use Rattle.tls_codec_wire.specs.Bounded.{gives_from_front_within, gives_in_order_within}
 use Rattle.tls_codec_wire.proofs.Bytes.{AreBytes-left}
-use Rattle.tls_codec_wire.proofs.Refused.{refused_now, seen_more}
+use Rattle.tls_codec_wire.proofs.Seen.{refused_now, seen_more}
 use Rattle.tls_codec_grammar.specs.Tree.{Tree, Empty, Join, Number, number_trees, trees}
 use Rattle.tls_codec_grammar.specs.Grammar.{Direction, Reading, content, number, sized}
 use Rattle.tls_codec_grammar.specs.Decoding.{GaveSpelling, part_source_names}
 use Rattle.tls_codec_grammar.specs.Format.{content_format, number_format, sized_format}
 use Rattle.tls_codec_grammar.specs.laws.FormatLaws.{number_meets}
 use Rattle.tls_codec_grammar.proofs.ByteContents.{bytes_content}
-use Rattle.tls_codec_base.specs.Refusals.{elements_source_names}
+use Rattle.tls_codec_base.specs.PartNames.{elements_source_names}
 use Rattle.tls_codec_base.specs.Runs.{ReadsRun, RefusesRun}
 use Rattle.tls_codec_base.specs.Turns.{MemoryOrFault, TurnedBy}
 use Rattle.tls_codec_base.specs.declared.lists.Turns.{Turns}

@@ -9,7 +9,7 @@ use Rattle.tls_codec_wire.proofs.Later.{fault_later, rose_later}
 use Rattle.tls_codec_grammar.specs.Tree.{Tree, Empty, Join}
 use Rattle.tls_codec_grammar.specs.Grammar.{Grammar, option}
 use Rattle.tls_codec_grammar.specs.Decoding.{Begins, NoneBegins, GaveSpelling, Refuses, RefusesSeen}
-use Rattle.tls_codec_base.specs.Refusals.{IsOtherByte}
+use Rattle.tls_codec_base.specs.PartNames.{IsOtherByte}
 
 -- a buffer of one byte
 pub one_byte_buffer : (buffer : List ℕ) (b : ℕ) → length buffer ≡ 1 → get_or buffer 0 0 ≡ b → buffer ≡ b ∷ []

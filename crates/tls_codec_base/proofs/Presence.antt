@@ -3,11 +3,11 @@ use Rattle.std.proofs.Common.{ℕ, List, [], true, false, inl, inr, refl, append
 use Rattle.std.proofs.KnownBytes.{Appends-nil}
 use Rattle.tls_codec_wire.specs.Counts.{Counts, none_fell_refl}
 use Rattle.tls_codec_wire.specs.Device.{GivesNothing}
-use Rattle.tls_codec_wire.specs.Refused.{Causes}
+use Rattle.tls_codec_wire.specs.Seen.{Causes}
 use Rattle.tls_codec_wire.specs.declared.device.Sink.{Ghosts as SinkGhosts}
 use Rattle.tls_codec_wire.specs.declared.device.Source.{Ghosts}
 use Rattle.tls_codec_wire.specs.declared.error.Error.{Error}
-use Rattle.tls_codec_wire.proofs.Refused.{refused_so}
+use Rattle.tls_codec_wire.proofs.Seen.{refused_so}
 use Rattle.tls_codec_grammar.specs.Tree.{Tree, Empty, Join}
 use Rattle.tls_codec_grammar.specs.Format.{Format}
 use Rattle.tls_codec_grammar.specs.Decoding.{Begins, GaveSpelling, Named, NoneBegins, Refuses, RefusesFromSource, RefusesSeen}

@@ -5,13 +5,13 @@ use Rattle.std.specs.Borrow.{Bor}
 use Rattle.std.proofs.lemmas.List.{append_cancel_left}
 use Rattle.tls_codec_wire.specs.Counts.{Counts, NoneFell}
 use Rattle.tls_codec_wire.specs.Device.{GivesInOrder, GivesNothing, NoCountFalls}
-use Rattle.tls_codec_wire.specs.Refused.{Causes}
+use Rattle.tls_codec_wire.specs.Seen.{Causes}
 use Rattle.tls_codec_wire.specs.Digits.{Digits}
 use Rattle.tls_codec_wire.specs.Transfer.{ReadRefused}
 use Rattle.tls_codec_wire.specs.declared.device.Source.{Ghosts}
 use Rattle.tls_codec_wire.specs.declared.error.Error.{Error}
 use Rattle.tls_codec_wire.specs.declared.error.Error.TheVariants.{UnknownValue}
-use Rattle.tls_codec_wire.proofs.Refused.{refused_later, refused_now, refused_so}
+use Rattle.tls_codec_wire.proofs.Seen.{refused_later, refused_now, refused_so}
 use Rattle.tls_codec_grammar.specs.Tree.{Tree, Number, Empty, Join}
 use Rattle.tls_codec_grammar.specs.Grammar.{Grammar, Reading, number, nothing, fields}
 use Rattle.tls_codec_grammar.specs.Format.{Format, fields_format, nothing_format, number_format}
@@ -19,7 +19,7 @@ use Rattle.tls_codec_grammar.specs.Lawful.{MeetsLaws}
 use Rattle.tls_codec_grammar.specs.Decoding.{Begins, GaveSpelling, Named, NoneBegins, Reads, Refuses, RefusesFromSource, RefusesSeen, Splits}
 use Rattle.tls_codec_grammar.specs.Tagged.{MeetsVariantLaws, Variants, tagged, tagged_format}
 use Rattle.tls_codec_wire.proofs.Later.{fault_later, rose_later}
-use Rattle.tls_codec_base.specs.Refusals.{SliceNames}
+use Rattle.tls_codec_base.specs.PartNames.{SliceNames}
 use Rattle.tls_codec_base.proofs.Coming.{named_after}
 use Rattle.tls_codec_base.proofs.FieldsDecoding.{fields_begins, fields_given, fields_leaves_first, last_named, none_at_first, nothing_begins, nothing_given}
 use Rattle.tls_codec_base.specs.TaggedNames.{tagged_names, tagged_source_names}

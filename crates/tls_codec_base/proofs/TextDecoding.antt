@@ -10,7 +10,7 @@ use Rattle.tls_codec_grammar.specs.Grammar.{Reading, bytes, text}
 use Rattle.tls_codec_grammar.specs.Decoding.{Begins, GaveSpelling, Named, NoneBegins, Refuses, RefusesSeen}
 use Rattle.tls_codec_grammar.specs.Errors.{Says}
 use Rattle.tls_codec_grammar.specs.Format.{text_format}
-use Rattle.tls_codec_wire.proofs.Refused.{refused_now}
+use Rattle.tls_codec_wire.proofs.Seen.{refused_now}
 use Rattle.tls_codec_grammar.specs.laws.NumberLaws.{number_trees_one}
 use Rattle.tls_codec_grammar.specs.Opaque.{IsNoText, TextSourceRefused}
 use Rattle.tls_codec_grammar.specs.laws.ListLaws.{bytes_lawful}

@@ -2,16 +2,16 @@
 use Rattle.std.proofs.Common.{◌≡◌, ℕ, List, ◌++◌, true, false, inl, inr, refl, sym, ap, subst, ◌∙◌, append_assoc}
 use Rattle.tls_codec_wire.specs.Counts.{Counts, NoneFell}
 use Rattle.tls_codec_wire.specs.Device.{GivesInOrder, NoCountFalls}
-use Rattle.tls_codec_wire.specs.Refused.{Causes}
+use Rattle.tls_codec_wire.specs.Seen.{Causes}
 use Rattle.tls_codec_wire.specs.declared.device.Source.{Ghosts}
 use Rattle.tls_codec_wire.specs.declared.error.Error.{Error}
-use Rattle.tls_codec_wire.proofs.Refused.{refused_later, refused_so}
+use Rattle.tls_codec_wire.proofs.Seen.{refused_later, refused_so}
 use Rattle.tls_codec_grammar.specs.Tree.{Tree, Join}
 use Rattle.tls_codec_grammar.specs.Grammar.{Grammar, Reading, fields}
 use Rattle.tls_codec_grammar.specs.Lawful.{MeetsLaws}
 use Rattle.tls_codec_grammar.specs.Format.{Format}
 use Rattle.tls_codec_grammar.specs.Decoding.{Begins, GaveSpelling, Named, NoneBegins, Refuses, RefusesFromSource, RefusesSeen}
-use Rattle.tls_codec_base.specs.Refusals.{NamedAfter, SliceNames}
+use Rattle.tls_codec_base.specs.PartNames.{NamedAfter, SliceNames}
 use Rattle.tls_codec_base.proofs.Coming.{named_after}
 use Rattle.tls_codec_base.proofs.FieldsDecoding.{fields_begins, fields_given, fields_refuses_others, fields_source_refuses_others}
 use Rattle.tls_codec_grammar.specs.Contexts.{then_format}

@@ -1,15 +1,15 @@
 -- A value, and the end of its source.
 use Rattle.std.proofs.Common.{ℕ, List, [], inl, inr, subst, append-nil}
 use Rattle.tls_codec_wire.specs.Device.{GivesInOrder, NoCountFalls}
-use Rattle.tls_codec_wire.specs.Refused.{Causes, RefusedFor, Seen}
+use Rattle.tls_codec_wire.specs.Seen.{Causes, RefusedFor, Seen}
 use Rattle.tls_codec_wire.specs.Transfer.{EndRefused}
 use Rattle.tls_codec_wire.specs.declared.device.Source.{Ghosts}
 use Rattle.tls_codec_wire.specs.declared.error.Error.{Error}
-use Rattle.tls_codec_wire.proofs.Refused.{refused_later, refused_so, seen_later}
+use Rattle.tls_codec_wire.proofs.Seen.{refused_later, refused_so, seen_later}
 use Rattle.tls_codec_grammar.specs.Tree.{Tree}
 use Rattle.tls_codec_grammar.specs.Format.{Format}
 use Rattle.tls_codec_grammar.specs.Decoding.{GaveSpelling, Named}
-use Rattle.tls_codec_base.specs.Refusals.{SawSpelling, to_end_names}
+use Rattle.tls_codec_base.specs.PartNames.{SawSpelling, to_end_names}
 use Rattle.tls_codec_base.proofs.Coming.{named_after}
 
 module _ {S : Type 0} (source : Ghosts S) (f : Format) {a b c : S} {v : Tree} (order : GivesInOrder source.given) (p : GaveSpelling source.given f.spells a b v) where

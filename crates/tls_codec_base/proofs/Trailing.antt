@@ -1,13 +1,13 @@
 -- Why decoders never return `TrailingData`: only a part can name it.
 use Rattle.std.proofs.Common.{ℕ, inl, inr, refl}
-use Rattle.tls_codec_wire.specs.Refused.{Causes}
+use Rattle.tls_codec_wire.specs.Seen.{Causes}
 use Rattle.tls_codec_wire.specs.declared.error.Error.TheVariants.{TrailingData}
 use Rattle.tls_codec_grammar.specs.Field.{Field}
 use Rattle.tls_codec_grammar.specs.Format.{Format}
 use Rattle.tls_codec_grammar.specs.Lawful.{MeetsFieldLaws}
 use Rattle.tls_codec_grammar.specs.Opaque.{OpaqueCopyRefused, OpaqueRefused, OpaqueSourceRefused, TextRefused, TextSourceRefused}
 use Rattle.tls_codec_grammar.specs.laws.FormatLaws.{variable_field_meets}
-use Rattle.tls_codec_base.specs.Refusals.{SliceNames, box_names, box_source_names, counted_list_names, counted_list_source_names, element_names, element_source_names, elements_names, elements_source_names, fields_names, fields_source_names, option_names, option_source_names}
+use Rattle.tls_codec_base.specs.PartNames.{SliceNames, box_names, box_source_names, counted_list_names, counted_list_source_names, element_names, element_source_names, elements_names, elements_source_names, fields_names, fields_source_names, option_names, option_source_names}
 use Rattle.tls_codec_base.specs.Trailing.{NeverTrailing, SourceNeverTrailing}
 
 -- ---- from a slice

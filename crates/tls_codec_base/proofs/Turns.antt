@@ -7,7 +7,7 @@ use Rattle.std.specs.Global.{Global}
 use Rattle.tls_codec_wire.specs.Bounded.{first_bytes, GaveWithin, inner_of, limit_of}
 use Rattle.tls_codec_wire.specs.Counts.{Counts, NoneFell}
 use Rattle.tls_codec_wire.specs.Device.{Gave, Gives, GivesInOrder, GivesNothing, NoCountFalls}
-use Rattle.tls_codec_wire.specs.Refused.{Causes, RefusedFor, reported_or}
+use Rattle.tls_codec_wire.specs.Seen.{Causes, RefusedFor, reported_or}
 use Rattle.tls_codec_wire.specs.declared.bounded.Bounded.{Bounded}
 use Rattle.tls_codec_wire.specs.declared.device.Source.{Ghosts}
 use Rattle.tls_codec_wire.specs.declared.error.Error.{Error}
@@ -18,7 +18,7 @@ use Rattle.tls_codec_grammar.specs.Lawful.{IsLawful}
 use Rattle.tls_codec_grammar.specs.Decoding.{AllGiven, AllRead, GaveSpelling, Refuses, RefusesSeen}
 use Rattle.tls_codec_grammar.specs.Format.{Format}
 use Rattle.tls_codec_wire.proofs.Later.{fault_later}
-use Rattle.tls_codec_wire.proofs.Refused.{refused_later, refused_now, seen_now}
+use Rattle.tls_codec_wire.proofs.Seen.{refused_later, refused_now, seen_now}
 use Rattle.tls_codec_base.specs.WholeElements.{NoElementBegins}
 use Rattle.tls_codec_base.specs.Turns.{MemoryOrFault, SourceTurnedRefused, TurnedAll, TurnedAtMost, TurnedBy, TurnedEach, TurnedPast, TurnedRefusedAtOnce, TurnedWithin, TurnedWithinGiven, turns_of}
 use Rattle.tls_codec_base.specs.declared.lists.Turns.{Turns}

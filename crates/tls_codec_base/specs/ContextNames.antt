@@ -1,14 +1,14 @@
 -- Which errors decoders name of parts that a context decides, and of values inside a length.
 use Rattle.std.specs.Prelude.{◌≡◌, ◌<◌, ◌⊎◌, ℕ, List, length, take}
 use Rattle.tls_codec_wire.specs.Numbers.{NumberNotRead}
-use Rattle.tls_codec_wire.specs.Refused.{Causes}
+use Rattle.tls_codec_wire.specs.Seen.{Causes}
 use Rattle.tls_codec_wire.specs.declared.error.Error.TheVariants.{TrailingData}
 use Rattle.tls_codec_grammar.specs.Tree.{Tree}
 use Rattle.tls_codec_grammar.specs.Grammar.{Grammar, Reading}
 use Rattle.tls_codec_grammar.specs.Field.{Field}
 use Rattle.tls_codec_grammar.specs.Format.{Format}
 use Rattle.tls_codec_grammar.specs.Decoding.{Begins, part_source_names}
-use Rattle.tls_codec_base.specs.Refusals.{NamedAfter, NamedAfterLength, SliceNames, SourceNamedAfter, SourceNamedAfterLength, part_names}
+use Rattle.tls_codec_base.specs.PartNames.{NamedAfter, NamedAfterLength, SliceNames, SourceNamedAfter, SourceNamedAfterLength, part_names}
 
 -- ---- a first part, and the others that its value decides
 

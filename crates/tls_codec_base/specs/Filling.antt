@@ -2,14 +2,14 @@
 use Rattle.std.specs.Prelude.{◌≡◌, [], Result, Vec, IfErr, IfOk, IsOkAnd}
 use Rattle.std.specs.Global.{Global}
 use Rattle.tls_codec_wire.specs.Bounded.{BorrowAlike, inner_of, limit_of}
-use Rattle.tls_codec_wire.specs.Refused.{Causes, RefusedFor}
+use Rattle.tls_codec_wire.specs.Seen.{Causes, RefusedFor}
 use Rattle.tls_codec_wire.specs.declared.bounded.Bounded.{Bounded}
 use Rattle.tls_codec_wire.specs.declared.device.Source.{Ghosts}
 use Rattle.tls_codec_wire.specs.declared.error.Error.{Error}
 use Rattle.tls_codec_grammar.specs.Tree.{Tree, trees}
 use Rattle.tls_codec_grammar.specs.Format.{Format, content_format, sized_format}
 use Rattle.tls_codec_grammar.specs.Decoding.{Reads}
-use Rattle.tls_codec_base.specs.Refusals.{NamedWithin}
+use Rattle.tls_codec_base.specs.PartNames.{NamedWithin}
 use Rattle.tls_codec_base.specs.Turns.{SourceTurnedRefused, TurnedEach, TurnedWithinGiven}
 use Rattle.tls_codec_base.specs.declared.lists.Turns.{Turns}
 

@@ -1,6 +1,6 @@
 pub mod WholeElements
 pub mod Turns
-pub mod Refusals
+pub mod PartNames
 pub mod Runs
 pub mod Filling
 pub mod TaggedNames

@@ -1,14 +1,14 @@
 -- Words of the table of types: what values stand for, how they are spelled, and which errors decoders name.
 use Rattle.std.specs.Prelude.{◌≡◌, ◌<◌, ◌↔◌, ℕ, Bool, IsTrue, List, length}
 use Rattle.tls_codec_wire.specs.Counts.{Counts}
-use Rattle.tls_codec_wire.specs.Refused.{Causes}
+use Rattle.tls_codec_wire.specs.Seen.{Causes}
 use Rattle.tls_codec_wire.specs.declared.error.Error.{Error}
 use Rattle.tls_codec_wire.specs.declared.error.Error.TheVariants.{EndOfStream}
 use Rattle.tls_codec_grammar.specs.Tree.{Tree}
 use Rattle.tls_codec_grammar.specs.Grammar.{Direction}
 use Rattle.tls_codec_grammar.specs.Field.{Field}
 use Rattle.tls_codec_grammar.specs.Format.{Format}
-use Rattle.tls_codec_base.specs.Refusals.{SliceNames}
+use Rattle.tls_codec_base.specs.PartNames.{SliceNames}
 use Rattle.tls_codec_base.specs.declared.traits.Size.{Ghosts}
 
 -- two formats say the same of each value and of all bytes

@@ -11,7 +11,7 @@ use Rattle.tls_codec_grammar.specs.Decoding.{Reads, Splits}
 
 -- one decoder was given the slice x, and the other a source that reports the same bytes
 pub record BothRead {T S : Type 0} (f : Format) (plain : T → Tree) (source : Ghosts S) (x : List ℕ) (old new : S) (from_slice : Result (T × Bor (List ℕ)) Error) (from_source : Result T Error) : Type 0 where
-  pub told : source.coming old ≡ Some x
+  pub reported : source.coming old ≡ Some x
   pub splits : Splits f plain x from_slice
   pub reads : Reads f plain source old new from_source
 

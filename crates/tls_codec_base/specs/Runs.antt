@@ -9,7 +9,7 @@ use Rattle.tls_codec_wire.specs.declared.device.Source.{Ghosts}
 use Rattle.tls_codec_wire.specs.declared.error.Error.{Error}
 use Rattle.tls_codec_grammar.specs.Grammar.{number}
 use Rattle.tls_codec_grammar.specs.Format.{number_format}
-use Rattle.tls_codec_base.specs.Refusals.{NamedWithin}
+use Rattle.tls_codec_base.specs.PartNames.{NamedWithin}
 use Rattle.tls_codec_base.specs.Turns.{TurnedRefusedAtOnce}
 use Rattle.tls_codec_base.specs.declared.lists.Turns.{Turns}
 

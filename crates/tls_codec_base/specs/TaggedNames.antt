@@ -1,10 +1,10 @@
 -- Which errors decoders of a choice with a tag name: those of the parts after it are passed on.
 use Rattle.std.specs.Prelude.{◌≡◌, ◌<◌, ◌⊎◌, ◌==◌, ℕ, length, Bool, true, false}
 use Rattle.tls_codec_wire.specs.Digits.{Digits}
-use Rattle.tls_codec_wire.specs.Refused.{Causes}
+use Rattle.tls_codec_wire.specs.Seen.{Causes}
 use Rattle.tls_codec_wire.specs.Transfer.{ReadRefused}
 use Rattle.tls_codec_wire.specs.declared.error.Error.TheVariants.{EndOfStream, UnknownValue}
-use Rattle.tls_codec_base.specs.Refusals.{NamedAfter, SliceNames, SourceNamedAfter}
+use Rattle.tls_codec_base.specs.PartNames.{NamedAfter, SliceNames, SourceNamedAfter}
 
 abbrev pub either_names : Bool → SliceNames → SliceNames → SliceNames
 either_names true these those = these

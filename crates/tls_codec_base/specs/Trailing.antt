@@ -1,9 +1,9 @@
 -- Decoders that never return `TrailingData`.
 use Rattle.std.specs.Prelude.{ℕ, List}
 use Rattle.tls_codec_wire.specs.Counts.{Counts}
-use Rattle.tls_codec_wire.specs.Refused.{Causes}
+use Rattle.tls_codec_wire.specs.Seen.{Causes}
 use Rattle.tls_codec_wire.specs.declared.error.Error.TheVariants.{TrailingData}
-use Rattle.tls_codec_base.specs.Refusals.{SliceNames}
+use Rattle.tls_codec_base.specs.PartNames.{SliceNames}
 
 -- it isn't among the errors that are named of a slice
 abbrev pub NeverTrailing : SliceNames → Type 0

@@ -4,7 +4,7 @@ use Rattle.std.specs.Global.{Global}
 use Rattle.tls_codec_wire.specs.Bounded.{inner_of, limit_of}
 use Rattle.tls_codec_wire.specs.Counts.{Counts, FaultIsCounted}
 use Rattle.tls_codec_wire.specs.Device.{Gives}
-use Rattle.tls_codec_wire.specs.Refused.{Causes, RefusedFor}
+use Rattle.tls_codec_wire.specs.Seen.{Causes, RefusedFor}
 use Rattle.tls_codec_wire.specs.declared.bounded.Bounded.{Bounded}
 use Rattle.tls_codec_wire.specs.declared.device.Source.{Ghosts}
 use Rattle.tls_codec_wire.specs.declared.error.Error.{Error}

@@ -1,6 +1,6 @@
 -- A number in k bytes that is one of some values (RFC 8446, section 3.5): a tag with nothing after it.
 use Rattle.std.specs.Prelude.{◌≡◌, ℕ, List, Bool, true, false}
-use Rattle.tls_codec_wire.specs.Refused.{Causes}
+use Rattle.tls_codec_wire.specs.Seen.{Causes}
 use Rattle.tls_codec_wire.specs.declared.error.Error.TheVariants.{UnknownValue}
 use Rattle.tls_codec_grammar.specs.Tree.{Tree}
 use Rattle.tls_codec_grammar.specs.Grammar.{Direction}
@@ -9,7 +9,7 @@ use Rattle.tls_codec_grammar.specs.Lawful.{MeetsLaws}
 use Rattle.tls_codec_grammar.specs.Tagged.{MeetsVariantLaws, Variants, either_format, no_format, tagged_format}
 use Rattle.tls_codec_grammar.specs.laws.FormatLaws.{nothing_meets}
 use Rattle.tls_codec_grammar.specs.laws.TaggedLaws.{no_variant_meets}
-use Rattle.tls_codec_base.specs.Refusals.{SliceNames}
+use Rattle.tls_codec_base.specs.PartNames.{SliceNames}
 use Rattle.tls_codec_base.specs.TaggedNames.{tagged_names, tagged_source_names}
 
 -- nothing comes after a tag that is one of the values

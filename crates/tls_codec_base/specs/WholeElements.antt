@@ -1,7 +1,7 @@
 -- How many whole elements are at the front of some bytes.
 use Rattle.std.specs.Prelude.{ℕ, zero, suc, ◌<◌, List, length, ⊤}
 use Rattle.tls_codec_grammar.specs.Grammar.{Grammar, Concat}
-use Rattle.tls_codec_base.specs.Refusals.{IsSpelling}
+use Rattle.tls_codec_base.specs.PartNames.{IsSpelling}
 
 -- a spelling that a list admits of an element: a nonempty one
 abbrev pub IsElement : Grammar → List ℕ → Type 0

@@ -3,7 +3,7 @@ ghost use Rattle.std.specs.Prelude.{◌≡◌, IfErr, IfOk};
 ghost use Rattle.tls_codec_wire.specs.declared.error.Error.TheVariants.{OutOfMemory};
 ghost use Rattle.tls_codec_grammar.specs.Format.{with_memory};
 ghost use Rattle.tls_codec_grammar.specs.laws.FormatLaws.{with_memory_meets};
-ghost use Rattle.tls_codec_base.specs.Refusals.{box_names, box_source_names};
+ghost use Rattle.tls_codec_base.specs.PartNames.{box_names, box_source_names};
 
 use crate::traits::{Deserialize, DeserializeBytes, Serialize, SerializeBytes, Size};
 use std::alloc::Global;

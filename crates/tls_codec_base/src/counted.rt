@@ -8,7 +8,7 @@ ghost use Rattle.tls_codec_grammar.specs.Tree.{trees};
 ghost use Rattle.tls_codec_grammar.specs.Format.{counted_list_format};
 ghost use Rattle.tls_codec_grammar.specs.Decoding.{Named, Reads, Splits};
 ghost use Rattle.tls_codec_grammar.specs.Encoding.{AppendsForm, Makes, Writes};
-ghost use Rattle.tls_codec_base.specs.Refusals.{counted_list_names, counted_list_source_names};
+ghost use Rattle.tls_codec_base.specs.PartNames.{counted_list_names, counted_list_source_names};
 
 use crate::context::{DeserializeBytesFor, DeserializeFor, SerializeFor, SizeFor};
 use crate::lists;

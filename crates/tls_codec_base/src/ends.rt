@@ -1,8 +1,8 @@
 //! A value and the end of its source.
 ghost use Rattle.std.specs.Prelude.{IfErr, IfOk};
-ghost use Rattle.tls_codec_wire.specs.Refused.{RefusedFor};
+ghost use Rattle.tls_codec_wire.specs.Seen.{RefusedFor};
 ghost use Rattle.tls_codec_grammar.specs.Decoding.{GaveSpelling};
-ghost use Rattle.tls_codec_base.specs.Refusals.{SawSpelling, to_end_names};
+ghost use Rattle.tls_codec_base.specs.PartNames.{SawSpelling, to_end_names};
 
 use crate::traits::Deserialize;
 use std::alloc::Global;

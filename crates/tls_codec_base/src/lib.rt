@@ -19,8 +19,8 @@
 //! - [`ends`]: [`deserialize_to_end`], a value and the end of its source. [`rooms`]: [`reserve_encoding`], room
 //!   for a whole encoding.
 //! - [`texts`]: `String` and `&str`, by [`opaque`], bytes after their length.
-//! - [`laws`]: what is lawful if its parts are. [`refusals`]: where `TrailingData` and `InvalidVectorLength`
-//!   come from. Both do nothing when they run. [`rejections`]: errors that validators return too.
+//! - [`laws`]: what is lawful if its parts are. [`error_laws`]: where `TrailingData` and `InvalidVectorLength`
+//!   come from. Their functions do nothing. [`error_texts`]: errors that validators return too.
 #![tactic(auto)]
 
 pub mod arrays;
@@ -30,13 +30,13 @@ pub mod by_refs;
 pub mod context;
 pub mod counted;
 pub mod ends;
+pub mod error_laws;
+pub mod error_texts;
 pub mod laws;
 pub mod lists;
 pub mod numbers;
 pub mod options;
 pub mod products;
-pub mod refusals;
-pub mod rejections;
 pub mod rooms;
 pub mod tags;
 pub mod texts;

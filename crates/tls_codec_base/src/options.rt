@@ -2,12 +2,12 @@
 //! RFC 9420, section 2.1.1).
 ghost use Rattle.std.specs.Prelude.{◌≡◌, ◌∷◌, IfErr, IfOk};
 ghost use Rattle.tls_codec_wire.specs.declared.error.Error.TheVariants.{OutOfMemory};
-ghost use Rattle.tls_codec_base.specs.Refusals.{option_names, option_source_names};
+ghost use Rattle.tls_codec_base.specs.PartNames.{option_names, option_source_names};
 ghost use Rattle.tls_codec_grammar.specs.Tree.{option_plain};
 ghost use Rattle.tls_codec_grammar.specs.Format.{option_format};
 ghost use Rattle.tls_codec_grammar.specs.laws.FormatLaws.{option_meets};
 
-use crate::rejections::OTHER_TAG;
+use crate::error_texts::OTHER_TAG;
 use crate::traits::{Deserialize, DeserializeBytes, Serialize, SerializeBytes, Size};
 use std::alloc::Global;
 use tls_codec_wire::{Error, Sink, Source, read_exactly, write_all};

@@ -6,7 +6,7 @@ ghost use Rattle.tls_codec_grammar.specs.Format.{text_format};
 ghost use Rattle.tls_codec_grammar.specs.laws.FormatLaws.{text_meets};
 ghost use Rattle.tls_codec_grammar.specs.Opaque.{TextRefused, TextSourceRefused};
 
-use crate::rejections::INVALID_UTF8;
+use crate::error_texts::INVALID_UTF8;
 use crate::traits::{Deserialize, DeserializeBytes, Serialize, SerializeBytes, Size};
 use std::alloc::Global;
 use tls_codec_grammar::opaque;

@@ -7,7 +7,7 @@ ghost use Rattle.tls_codec_wire.specs.declared.error.Error.TheVariants.{InvalidV
 ghost use Rattle.tls_codec_grammar.specs.Tree.{Tree, trees};
 ghost use Rattle.tls_codec_grammar.specs.Format.{Format};
 ghost use Rattle.tls_codec_grammar.specs.Lawful.{MeetsLaws};
-ghost use Rattle.tls_codec_base.specs.Refusals.{NamedWithin};
+ghost use Rattle.tls_codec_base.specs.PartNames.{NamedWithin};
 ghost use Rattle.tls_codec_base.specs.Turns.{TurnedAll};
 ghost use Rattle.tls_codec_grammar.specs.Decoding.{AllGiven, AllRead, LeavesBytes, Named, Reads, ReadsWhole, Splits};
 ghost use Rattle.tls_codec_grammar.specs.Encoding.{AllSent, AppendsForm, Makes, Writes};

@@ -3,7 +3,7 @@
 ghost use Rattle.tls_codec_grammar.specs.Tree.{trees};
 ghost use Rattle.tls_codec_grammar.specs.Format.{list_format};
 ghost use Rattle.tls_codec_grammar.specs.laws.FormatLaws.{list_meets};
-ghost use Rattle.tls_codec_base.specs.Refusals.{list_names, list_source_names};
+ghost use Rattle.tls_codec_base.specs.PartNames.{list_names, list_source_names};
 
 use crate::counted;
 use crate::traits::{Deserialize, DeserializeBytes, Serialize, SerializeBytes, Size};

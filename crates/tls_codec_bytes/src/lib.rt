@@ -6,8 +6,7 @@
 //!
 //! - [`bytes`]: [`TlsByteVec`] and its own calls, under a name for each width.
 //! - [`coding`]: how it is written and read.
-//! - [`laws`]: what byte vectors stand for, how they are encoded and compared. It does nothing when
-//!   it runs.
+//! - [`laws`]: how byte vectors are encoded, converted, copied and compared. Its functions do nothing.
 #![tactic(auto)]
 
 pub mod bytes;

@@ -3,7 +3,7 @@ use Rattle.std.proofs.Common.{◌≡◌, [], inl, inr, refl}
 use Rattle.std.proofs.KnownBytes.{Appends-nil}
 use Rattle.tls_codec_wire.specs.Counts.{none_fell_refl}
 use Rattle.tls_codec_wire.specs.Device.{GivesNothing}
-use Rattle.tls_codec_wire.proofs.Refused.{refused_now}
+use Rattle.tls_codec_wire.proofs.Seen.{refused_now}
 use Rattle.tls_codec_wire.specs.declared.error.Error.TheVariants.{UnknownValue}
 use Rattle.tls_codec_grammar.specs.Tree.{Tree}
 use Rattle.tls_codec_grammar.specs.Encoding.{Breaks}

@@ -8,10 +8,10 @@ use Rattle.std.proofs.Common.{[], inl}
 use Rattle.tls_codec_wire.specs.Device.{GivesNothing}
 use Rattle.tls_codec_wire.specs.declared.device.Source.{Ghosts}
 use Rattle.tls_codec_wire.specs.declared.error.Error.TheVariants.{UnknownValue}
-use Rattle.tls_codec_wire.proofs.Refused.{refused_now}
+use Rattle.tls_codec_wire.proofs.Seen.{refused_now}
 use Rattle.tls_codec_grammar.specs.Decoding.{Named, RefusesFromSource}
-use Rattle.tls_codec_wire.specs.Refused.{Causes}
-use Rattle.tls_codec_base.specs.Refusals.{SliceNames}
+use Rattle.tls_codec_wire.specs.Seen.{Causes}
+use Rattle.tls_codec_base.specs.PartNames.{SliceNames}
 use Rattle.tls_codec_base.specs.TaggedNames.{either_names, either_source_names, no_variant_source_names}
 
 pub at_own : (t own : ℕ) (f g : Format) → t ≡ own → either_format (t == own) f g ≡ f

@@ -1,7 +1,7 @@
 -- What a list of cases says: its variants, whether its tags are told apart, and the format of a choice among them.
 use Rattle.std.specs.Prelude.{◌≡◌, ◌<◌, ◌^◌, ℕ, List, Bool, true, false, Result, Ok, Err}
 use Rattle.std.specs.Borrow.{Bor}
-use Rattle.tls_codec_wire.specs.Refused.{Causes}
+use Rattle.tls_codec_wire.specs.Seen.{Causes}
 use Rattle.tls_codec_wire.specs.declared.device.Source.{Ghosts}
 use Rattle.tls_codec_wire.specs.declared.error.Error.{Error}
 use Rattle.tls_codec_wire.specs.declared.error.Error.TheVariants.{UnknownValue}
@@ -11,7 +11,7 @@ use Rattle.tls_codec_grammar.specs.Lawful.{MeetsLaws}
 use Rattle.tls_codec_grammar.specs.Decoding.{Begins, GaveSpelling, Refuses, RefusesFromSource}
 use Rattle.tls_codec_grammar.specs.Tagged.{MeetsVariantLaws, Variants, either_format, tagged_format}
 use Rattle.tls_codec_grammar.specs.laws.TaggedLaws.{tagged_meets}
-use Rattle.tls_codec_base.specs.Refusals.{SliceNames}
+use Rattle.tls_codec_base.specs.PartNames.{SliceNames}
 use Rattle.tls_codec_base.specs.TaggedNames.{either_names, either_source_names, tagged_names, tagged_source_names}
 
 -- ---- a choice

@@ -1,6 +1,6 @@
 -- A select whose tag is elsewhere: the parts of the case that a context names (RFC 8446, section 3.8).
 use Rattle.std.specs.Prelude.{◌≡◌, ℕ, Bool, true, false}
-use Rattle.tls_codec_wire.specs.Refused.{Causes}
+use Rattle.tls_codec_wire.specs.Seen.{Causes}
 use Rattle.tls_codec_wire.specs.declared.error.Error.TheVariants.{UnknownValue}
 use Rattle.tls_codec_grammar.specs.Tree.{Tree, Number}
 use Rattle.tls_codec_grammar.specs.Format.{Format}
@@ -8,7 +8,7 @@ use Rattle.tls_codec_grammar.specs.Lawful.{MeetsLaws}
 use Rattle.tls_codec_grammar.specs.Tagged.{MeetsVariantLaws, Variants, either_format}
 use Rattle.tls_codec_grammar.specs.Contexts.{chosen_format}
 use Rattle.tls_codec_grammar.specs.laws.ContextLaws.{chosen_meets}
-use Rattle.tls_codec_base.specs.Refusals.{SliceNames}
+use Rattle.tls_codec_base.specs.PartNames.{SliceNames}
 use Rattle.tls_codec_base.specs.TaggedNames.{either_names, either_source_names}
 use Rattle.tls_codec_cases.specs.Choice.{refused_format, refused_meets}
 

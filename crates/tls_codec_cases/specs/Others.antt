@@ -1,14 +1,14 @@
 -- The case of every tag that no other has: what comes after each tag up to the greatest.
 use Rattle.std.proofs.Common.{◌≡◌, ℕ, List, Bool, true, false}
 use Rattle.std.specs.Prelude.{nat_le}
-use Rattle.tls_codec_wire.specs.Refused.{Causes}
+use Rattle.tls_codec_wire.specs.Seen.{Causes}
 use Rattle.tls_codec_grammar.specs.Grammar.{Direction}
 use Rattle.tls_codec_grammar.specs.Tree.{Tree}
 use Rattle.tls_codec_grammar.specs.Format.{Format}
 use Rattle.tls_codec_grammar.specs.Lawful.{MeetsLaws}
 use Rattle.tls_codec_grammar.specs.Tagged.{MeetsVariantLaws, Variants, either_format, no_format}
 use Rattle.tls_codec_grammar.specs.laws.TaggedLaws.{no_variant_meets}
-use Rattle.tls_codec_base.specs.Refusals.{SliceNames}
+use Rattle.tls_codec_base.specs.PartNames.{SliceNames}
 use Rattle.tls_codec_base.specs.TaggedNames.{either_names, either_source_names, no_variant_names, no_variant_source_names}
 
 -- each tag up to the greatest has these parts

@@ -6,8 +6,8 @@ use Rattle.tls_codec_grammar.specs.Grammar.{Direction}
 use Rattle.tls_codec_grammar.specs.Format.{Format}
 use Rattle.tls_codec_grammar.specs.Lawful.{MeetsLaws}
 use Rattle.tls_codec_grammar.specs.Tagged.{MeetsVariantLaws, Variants, either_format}
-use Rattle.tls_codec_wire.specs.Refused.{Causes}
-use Rattle.tls_codec_base.specs.Refusals.{SliceNames}
+use Rattle.tls_codec_wire.specs.Seen.{Causes}
+use Rattle.tls_codec_base.specs.PartNames.{SliceNames}
 use Rattle.tls_codec_base.specs.TaggedNames.{either_names, either_source_names}
 use Rattle.tls_codec_cases.specs.declared.either.Or.{Or}
 use Rattle.tls_codec_cases.specs.declared.either.Or.TheVariants.{First, Second}

@@ -18,6 +18,7 @@ use tls_codec_wire::Error;
 /// the bytes that there are.
 #[derive(PartialEq, Eq, Debug, Clone, Drop)]
 pub struct Followed<T> {
+    /// The value before the bytes.
     pub content: T,
     /// All bytes after it.
     pub rest: Vec<u8>,

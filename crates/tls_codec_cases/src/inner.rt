@@ -21,6 +21,7 @@ use tls_codec_wire::Error;
 /// are.
 #[derive(PartialEq, Eq, Debug, Clone, Drop)]
 pub struct InnerPlaintext<T> {
+    /// The bytes before the type.
     pub content: Vec<u8>,
     /// The `type`.
     pub kind: T,

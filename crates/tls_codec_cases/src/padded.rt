@@ -17,6 +17,7 @@ use tls_codec_wire::Error;
 /// [`Always<T>`](tls_codec_base::Always).
 #[derive(PartialEq, Eq, Debug, Clone, Drop)]
 pub struct Padded<T> {
+    /// The value before the zeros.
     pub content: T,
     /// How many zeros there are.
     pub padding: usize,

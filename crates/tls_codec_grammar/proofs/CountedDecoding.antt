@@ -4,7 +4,7 @@ use Rattle.std.proofs.lemmas.List.{append_cancel_left}
 use Rattle.tls_codec_wire.specs.Counts.{Counts, NoneFell}
 use Rattle.tls_codec_wire.specs.Device.{GivesInOrder, NoCountFalls}
 use Rattle.tls_codec_wire.specs.Numbers.{BeginsNumber, GaveNumber, NoNumberBegins, NumberNotRead}
-use Rattle.tls_codec_wire.specs.Refused.{RefusedFor}
+use Rattle.tls_codec_wire.specs.Seen.{RefusedFor}
 use Rattle.tls_codec_wire.specs.declared.device.Source.{Ghosts}
 use Rattle.tls_codec_wire.specs.declared.error.Error.{Error}
 use Rattle.tls_codec_grammar.specs.Tree.{Tree}
@@ -14,7 +14,7 @@ use Rattle.tls_codec_grammar.specs.Lawful.{MeetsFieldLaws}
 use Rattle.tls_codec_grammar.specs.Decoding.{Begins, GaveSpelling, NoneBegins, Refuses, RefusesSeen}
 use Rattle.tls_codec_grammar.proofs.NumberRefusals.{number_refused, number_refuses}
 use Rattle.tls_codec_wire.proofs.Later.{fault_later, rose_later}
-use Rattle.tls_codec_wire.proofs.Refused.{refused_later}
+use Rattle.tls_codec_wire.proofs.Seen.{refused_later}
 
 module _ {field : Field} (m : MeetsFieldLaws field) (inside : Grammar) where
   -- ---- from a slice

@@ -1,9 +1,9 @@
 -- What is refused by name is refused.
 use Rattle.std.proofs.Common.{List, ℕ}
-use Rattle.tls_codec_wire.specs.Refused.{Causes}
+use Rattle.tls_codec_wire.specs.Seen.{Causes}
 use Rattle.tls_codec_wire.specs.declared.device.Source.{Ghosts}
 use Rattle.tls_codec_wire.specs.declared.error.Error.{Error}
-use Rattle.tls_codec_wire.proofs.Refused.{refused_so}
+use Rattle.tls_codec_wire.proofs.Seen.{refused_so}
 use Rattle.tls_codec_grammar.specs.Decoding.{Named, RefusesFromSource}
 use Rattle.tls_codec_grammar.specs.Format.{Format}
 

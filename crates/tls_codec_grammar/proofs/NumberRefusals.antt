@@ -2,9 +2,9 @@
 use Rattle.std.proofs.Common.{◌≡◌, ◌≢◌, ◌<◌, List, ℕ, length, Bool, true, inl, inr, ap, refl, subst, arith, length-append}
 use Rattle.tls_codec_wire.specs.Counts.{Counts}
 use Rattle.tls_codec_wire.specs.Numbers.{NumberNotRead}
-use Rattle.tls_codec_wire.specs.Refused.{RefusedFor}
+use Rattle.tls_codec_wire.specs.Seen.{RefusedFor}
 use Rattle.tls_codec_wire.specs.declared.device.Source.{Ghosts}
-use Rattle.tls_codec_wire.proofs.Refused.{refused_so}
+use Rattle.tls_codec_wire.proofs.Seen.{refused_so}
 use Rattle.tls_codec_wire.specs.declared.error.Error.{Error}
 use Rattle.tls_codec_wire.specs.declared.error.Error.TheVariants.{DecodingError, EndOfStream, OutOfMemory, TrailingData}
 use Rattle.tls_codec_wire.specs.Transfer.{ReadRefused}

@@ -2,7 +2,7 @@
 use Rattle.std.proofs.Common.{◌≡◌, ℕ, ◌<◌, List, ◌++◌, length, take, drop, take-append-drop, get_or, Bool, false, inl, ◌⊎◌, inr, refl, sym, ap, subst, ◌∙◌, arith}
 use Rattle.tls_codec_wire.specs.Counts.{Counts, NoneFell}
 use Rattle.tls_codec_wire.specs.Device.{GivesInOrder, NoCountFalls}
-use Rattle.tls_codec_wire.specs.Refused.{RefusedFor}
+use Rattle.tls_codec_wire.specs.Seen.{RefusedFor}
 use Rattle.tls_codec_wire.specs.Digits.{AreBytes}
 use Rattle.tls_codec_wire.specs.Numbers.{BeginsNumber, GaveNumber, NumberNotRead}
 use Rattle.tls_codec_wire.specs.Transfer.{BytesRefused}
@@ -20,7 +20,7 @@ use Rattle.tls_codec_grammar.specs.Opaque.{OpaqueSourceRefused}
 use Rattle.tls_codec_grammar.proofs.ByteContents.{AreBytes-right, bytes_content, sized_short}
 use Rattle.tls_codec_grammar.proofs.CountedDecoding.{count_refused, counted_begins, counted_given, counted_none_at_count, counted_none_at_inside}
 use Rattle.tls_codec_wire.proofs.Later.{fault_later}
-use Rattle.tls_codec_wire.proofs.Refused.{refused_later, refused_so}
+use Rattle.tls_codec_wire.proofs.Seen.{refused_later, refused_so}
 
 module _ {field : Field} (m : MeetsFieldLaws field) where
   -- ---- from a slice

@@ -3,7 +3,7 @@ use Rattle.std.specs.Prelude.{◌≡◌, ◌<◌, ◌⊎◌, ℕ, List, ◌++◌
 use Rattle.std.specs.Global.{Global}
 use Rattle.tls_codec_wire.specs.Counts.{Counts, FaultIsCounted, RoseBy}
 use Rattle.std.specs.Borrow.{Bor}
-use Rattle.tls_codec_wire.specs.Refused.{Causes, RefusedFor}
+use Rattle.tls_codec_wire.specs.Seen.{Causes, RefusedFor}
 use Rattle.tls_codec_wire.specs.Bounded.{inner_of, limit_of}
 use Rattle.tls_codec_wire.specs.declared.bounded.Bounded.{Bounded}
 use Rattle.tls_codec_wire.specs.declared.device.Source.{Ghosts}

@@ -20,7 +20,7 @@ pub fn context_examples()
     ensures first_leaves_out { (then_format (number_format 1)
         (λ c. present_format (is_number 1 c) (number_format 2))).spells
         Reading (0x02 ∷ []) (Join (Number 2) Empty) }
-    ensures misfit_is_not_spelled { HasNoSpelling (then_format (number_format 1)
+    ensures what_does_not_fit_is_not_spelled { HasNoSpelling (then_format (number_format 1)
         (λ c. present_format (is_number 1 c) (number_format 2))).spells
         (Join (Number 1) Empty) }
     ensures pair_is_lawful { MeetsLaws (then_format (number_format 1)

@@ -8,7 +8,7 @@ use Rattle.tls_codec_grammar.specs.Grammar.{Reading}
 use Rattle.tls_codec_grammar.specs.Format.{Format}
 use Rattle.tls_codec_grammar.specs.Decoding.{Begins}
 use Rattle.tls_codec_validate.specs.Validated.{Rejects}
-use Rattle.tls_codec_outcome.specs.Numbers.{status_number}
+use Rattle.tls_codec_outcome.specs.Statuses.{status_number}
 use Rattle.tls_codec_outcome.specs.Outcomes.{Decides, IsTaken}
 
 -- ---- the status

@@ -1,7 +1,7 @@
 -- Elements of a list, by their places in some bytes.
 use Rattle.std.specs.Prelude.{◌≡◌, ◌<◌, ◌≤◌, ℕ, List, length}
 use Rattle.tls_codec_grammar.specs.Format.{Format}
-use Rattle.tls_codec_base.specs.Refusals.{IsSpelling}
+use Rattle.tls_codec_base.specs.PartNames.{IsSpelling}
 use Rattle.tls_codec_outcome.specs.Fields.{bytes_at, span_end}
 use Rattle.tls_codec_outcome.specs.declared.fields.Span.{Span}
 

@@ -5,7 +5,7 @@ use Rattle.tls_codec_grammar.specs.Grammar.{Reading, number}
 use Rattle.tls_codec_grammar.specs.Field.{Field}
 use Rattle.tls_codec_grammar.specs.Format.{Format, counted_bytes_format}
 use Rattle.tls_codec_grammar.specs.Decoding.{Begins, BeginsSome}
-use Rattle.tls_codec_base.specs.Refusals.{IsSpelling}
+use Rattle.tls_codec_base.specs.PartNames.{IsSpelling}
 use Rattle.tls_codec_outcome.specs.declared.fields.Span.{Span}
 
 -- n bytes of x from a place on

@@ -1,5 +1,5 @@
 -- What calls say of bytes, in numbers.
-pub mod Numbers
+pub mod Statuses
 pub mod Outcomes
 pub mod Fields
 pub mod Elements

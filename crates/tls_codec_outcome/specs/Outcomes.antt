@@ -4,10 +4,10 @@ use Rattle.tls_codec_wire.specs.declared.error.Error.{Error}
 use Rattle.tls_codec_grammar.specs.Grammar.{Grammar}
 use Rattle.tls_codec_grammar.specs.Format.{Format}
 use Rattle.tls_codec_grammar.specs.Decoding.{BeginsSome, NoneBegins}
-use Rattle.tls_codec_base.specs.Refusals.{IsSpelling, SliceNames}
+use Rattle.tls_codec_base.specs.PartNames.{IsSpelling, SliceNames}
 use Rattle.tls_codec_validate.specs.declared.rejected.Rejected.{Rejected}
 use Rattle.tls_codec_validate.specs.Places.{PlacedNames, RejectedAt}
-use Rattle.tls_codec_outcome.specs.Numbers.{detail_number, status_number}
+use Rattle.tls_codec_outcome.specs.Statuses.{detail_number, status_number}
 
 -- ---- the status
 

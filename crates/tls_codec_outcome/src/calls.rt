@@ -1,6 +1,6 @@
 //! The calls, for any type.
 ghost use Rattle.std.specs.Prelude.{◌≡◌, ◌-◌, length};
-ghost use Rattle.tls_codec_outcome.specs.Numbers.{detail_number, status_number};
+ghost use Rattle.tls_codec_outcome.specs.Statuses.{detail_number, status_number};
 ghost use Rattle.tls_codec_outcome.specs.Outcomes.{Decides, DecidesInMemory, IsNamed, IsRejection, IsTaken};
 
 use crate::outcome::{ACCEPTED, Outcome};

@@ -1,6 +1,6 @@
-//! The numbers of an error.
+//! The status and the detail of an error, in plain numbers.
 ghost use Rattle.std.specs.Prelude.{◌≡◌};
-ghost use Rattle.tls_codec_outcome.specs.Numbers.{detail_number, status_number};
+ghost use Rattle.tls_codec_outcome.specs.Statuses.{detail_number, status_number};
 
 use tls_codec_wire::Error;
 

@@ -2,7 +2,7 @@
 ghost use Rattle.tls_codec_grammar.specs.Tree.{trees};
 ghost use Rattle.tls_codec_grammar.specs.Format.{counted_list_format};
 ghost use Rattle.tls_codec_grammar.specs.laws.FormatLaws.{counted_list_meets};
-ghost use Rattle.tls_codec_base.specs.Refusals.{counted_list_names, counted_list_source_names};
+ghost use Rattle.tls_codec_base.specs.PartNames.{counted_list_names, counted_list_source_names};
 ghost use Rattle.tls_codec_secret.specs.Contents.{elements_of};
 
 use crate::list::SecretTlsVec;

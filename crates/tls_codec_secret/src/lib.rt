@@ -4,8 +4,7 @@
 //!
 //! - [`list`]: [`SecretTlsVec`] and its calls, and the names [`SecretTlsVecU8`], [`SecretTlsVecU16`],
 //!   [`SecretTlsVecU24`] and [`SecretTlsVecU32`].
-//! - [`laws`]: what vectors stand for, how they are encoded, compared and cleared. It does nothing
-//!   when it runs.
+//! - [`laws`]: how vectors are encoded, converted, compared and cleared. Its functions do nothing.
 #![tactic(auto)]
 
 mod coding;

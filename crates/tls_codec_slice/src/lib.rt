@@ -5,8 +5,8 @@
 //!
 //! - [`elements`]: [`TlsSliceU8`] and siblings, for elements of any type that is written.
 //! - [`bytes`]: [`TlsByteSliceU8`] and siblings, for bytes, which are moved in bulk.
-//! - [`laws`]: what the wrappers stand for, how they are encoded and copied. It does nothing when
-//!   it runs.
+//! - [`laws`]: a copy of a wrapper is equal to it. Its function does nothing. What wrappers stand for, and how
+//!   they are encoded: `types` of `tls_codec`.
 #![tactic(auto)]
 
 pub mod bytes;

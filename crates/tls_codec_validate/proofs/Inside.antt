@@ -13,7 +13,7 @@ use Rattle.tls_codec_grammar.specs.Decoding.{Begins, NoneBegins, NoneSpelled}
 use Rattle.tls_codec_grammar.specs.laws.RowLaws.{split_at}
 use Rattle.tls_codec_grammar.proofs.CountedDecoding.{counted_begins, counted_none_at_inside}
 use Rattle.tls_codec_base.specs.ContextNames.{enclosed_names, filling_names}
-use Rattle.tls_codec_base.specs.Refusals.{IsSpelling, SliceNames}
+use Rattle.tls_codec_base.specs.PartNames.{IsSpelling, SliceNames}
 use Rattle.tls_codec_base.proofs.Enclosing.{enclosed_behind, left_inside}
 use Rattle.tls_codec_validate.specs.declared.rejected.Rejected.{Rejected}
 use Rattle.tls_codec_validate.specs.Validated.{BeginsLeaving, Rejects, RejectsWhole}

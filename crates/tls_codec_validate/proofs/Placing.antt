@@ -6,7 +6,7 @@ use Rattle.tls_codec_grammar.specs.Grammar.{Grammar}
 use Rattle.tls_codec_grammar.specs.Field.{Field}
 use Rattle.tls_codec_grammar.specs.Format.{Format}
 use Rattle.tls_codec_grammar.specs.Decoding.{Begins, LeavesBytes, Refuses}
-use Rattle.tls_codec_base.specs.Refusals.{IsOtherByte, IsOtherTag, IsRun, NamedAfter, SliceNames, counted_list_names, element_names, elements_names, fields_names, option_names, part_names}
+use Rattle.tls_codec_base.specs.PartNames.{IsOtherByte, IsOtherTag, IsRun, NamedAfter, SliceNames, counted_list_names, element_names, elements_names, fields_names, option_names, part_names}
 use Rattle.tls_codec_base.specs.ContextNames.{then_names}
 use Rattle.tls_codec_base.proofs.ListReading.{ReadSoFar}
 use Rattle.tls_codec_validate.specs.declared.rejected.Rejected.{Rejected}

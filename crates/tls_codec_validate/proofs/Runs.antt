@@ -6,7 +6,7 @@ use Rattle.tls_codec_grammar.specs.Tree.{Tree, Number, Empty, Join, number_trees
 use Rattle.tls_codec_grammar.specs.Grammar.{Grammar, Reading, array, content, fields, nothing, number}
 use Rattle.tls_codec_grammar.specs.Decoding.{NoneBegins}
 use Rattle.tls_codec_grammar.proofs.ByteContents.{AreBytes-right}
-use Rattle.tls_codec_base.specs.Refusals.{IsSpelling}
+use Rattle.tls_codec_base.specs.PartNames.{IsSpelling}
 use Rattle.tls_codec_validate.specs.Validated.{BeginsLeaving, EachIs}
 
 pub each_number : (k : ℕ) → EachIs (number k) k

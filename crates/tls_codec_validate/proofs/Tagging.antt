@@ -12,7 +12,7 @@ use Rattle.tls_codec_grammar.specs.Lawful.{MeetsLaws}
 use Rattle.tls_codec_grammar.specs.Decoding.{Begins, NoneBegins, Splits}
 use Rattle.tls_codec_grammar.specs.Tagged.{MeetsVariantLaws, Variants, tagged, tagged_format}
 use Rattle.tls_codec_base.specs.Meanings.{too_few}
-use Rattle.tls_codec_base.specs.Refusals.{SliceNames}
+use Rattle.tls_codec_base.specs.PartNames.{SliceNames}
 use Rattle.tls_codec_base.specs.TaggedNames.{tagged_names}
 use Rattle.tls_codec_base.proofs.FieldsDecoding.{none_at_first}
 pub use Rattle.tls_codec_base.proofs.FieldsDecoding.{nothing_begins}

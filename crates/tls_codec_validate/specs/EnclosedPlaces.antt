@@ -4,7 +4,7 @@ use Rattle.tls_codec_wire.specs.declared.error.Error.{Error}
 use Rattle.tls_codec_wire.specs.declared.error.Error.TheVariants.{TrailingData}
 use Rattle.tls_codec_grammar.specs.Field.{Field}
 use Rattle.tls_codec_grammar.specs.Format.{Format}
-use Rattle.tls_codec_base.specs.Refusals.{NamedAfterLength, SliceNames}
+use Rattle.tls_codec_base.specs.PartNames.{NamedAfterLength, SliceNames}
 use Rattle.tls_codec_validate.specs.Validated.{BeginsLeaving}
 use Rattle.tls_codec_validate.specs.Places.{PlacedNames, here}
 

@@ -6,7 +6,7 @@ use Rattle.tls_codec_grammar.specs.Grammar.{Grammar}
 use Rattle.tls_codec_grammar.specs.Field.{Field}
 use Rattle.tls_codec_grammar.specs.Format.{Format}
 use Rattle.tls_codec_base.specs.Meanings.{SameNames}
-use Rattle.tls_codec_base.specs.Refusals.{IsPayloadTag, IsRun, NamedAfter, NamedAfterLength, SliceNames, element_names, option_names, part_names}
+use Rattle.tls_codec_base.specs.PartNames.{IsPayloadTag, IsRun, NamedAfter, NamedAfterLength, SliceNames, element_names, option_names, part_names}
 use Rattle.tls_codec_validate.specs.declared.rejected.Rejected.{Rejected}
 use Rattle.tls_codec_validate.specs.Validated.{BeginsLeaving}
 

@@ -8,7 +8,7 @@ use Rattle.tls_codec_grammar.specs.Tree.{Tree, Number}
 use Rattle.tls_codec_grammar.specs.Grammar.{Grammar, number}
 use Rattle.tls_codec_grammar.specs.Format.{Format}
 use Rattle.tls_codec_grammar.specs.Decoding.{Begins, LeavesBytes, NoneBegins, NoneSpelled}
-use Rattle.tls_codec_base.specs.Refusals.{IsSpelling}
+use Rattle.tls_codec_base.specs.PartNames.{IsSpelling}
 use Rattle.tls_codec_validate.specs.declared.rejected.Rejected.{Rejected}
 
 -- x begins with a spelling, and leaves rest

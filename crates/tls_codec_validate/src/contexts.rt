@@ -1,5 +1,5 @@
 //! Parts that a context decides: by its key.
-ghost use Rattle.tls_codec_base.specs.Refusals.{fields_names};
+ghost use Rattle.tls_codec_base.specs.PartNames.{fields_names};
 ghost use Rattle.tls_codec_grammar.specs.Field.{variable_field};
 ghost use Rattle.tls_codec_validate.specs.Keys.{then_places};
 ghost use Rattle.tls_codec_validate.specs.Places.{counted_list_places};

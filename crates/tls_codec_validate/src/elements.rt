@@ -3,7 +3,7 @@ ghost use Rattle.std.specs.Prelude.{IfErr, IfSome};
 ghost use Rattle.tls_codec_grammar.specs.Format.{content_format, counted_list_format, sized_format};
 ghost use Rattle.tls_codec_grammar.specs.Grammar.{content, sized};
 ghost use Rattle.tls_codec_grammar.specs.Tree.{Tree};
-ghost use Rattle.tls_codec_base.specs.Refusals.{counted_list_names, elements_names};
+ghost use Rattle.tls_codec_base.specs.PartNames.{counted_list_names, elements_names};
 ghost use Rattle.tls_codec_validate.specs.Keys.{RejectedFor, ValidatesFor};
 ghost use Rattle.tls_codec_validate.specs.Places.{RejectedAt, counted_list_places, elements_places};
 ghost use Rattle.tls_codec_validate.specs.Validated.{BeginsLeaving, Validates};
@@ -12,7 +12,7 @@ use crate::keys::Keyed;
 use crate::rejected::{Rejected, or_rejected};
 use crate::traits::Validate;
 use crate::validate_for::ValidateFor;
-use tls_codec_base::rejections::{NO_BYTES, NOT_FILLED};
+use tls_codec_base::error_texts::{NO_BYTES, NOT_FILLED};
 use tls_codec_base::{Always, LengthField};
 use tls_codec_grammar::opaque::see_bytes;
 

@@ -6,7 +6,7 @@ ghost use Rattle.std.specs.Borrow.{Bor};
 ghost use Rattle.tls_codec_wire.specs.declared.error.Error.{Error};
 ghost use Rattle.tls_codec_grammar.specs.Announced.{capped};
 ghost use Rattle.tls_codec_grammar.specs.Decoding.{BeginsSome, Reads, ReadsWhole, Splits};
-ghost use Rattle.tls_codec_base.specs.Refusals.{IsSpelling};
+ghost use Rattle.tls_codec_base.specs.PartNames.{IsSpelling};
 ghost use Rattle.tls_codec_base.specs.Paths.{FaultOrNoMemory, NoMemory};
 ghost use Rattle.tls_codec_validate.specs.declared.rejected.Rejected.{Rejected};
 ghost use Rattle.tls_codec_validate.specs.Validated.{RejectsWhole, Validates};

@@ -3,7 +3,7 @@ ghost use Rattle.tls_codec_validate.specs.Places.{option_places};
 
 use crate::rejected::Rejected;
 use crate::traits::Validate;
-use tls_codec_base::rejections::OTHER_TAG;
+use tls_codec_base::error_texts::OTHER_TAG;
 use tls_codec_wire::Error;
 
 impl<T: Validate> Validate for Option<T> {

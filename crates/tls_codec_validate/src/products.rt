@@ -1,5 +1,5 @@
 //! Pairs, triples, `()` and `PhantomData<T>`.
-ghost use Rattle.tls_codec_base.specs.Refusals.{fields_names};
+ghost use Rattle.tls_codec_base.specs.PartNames.{fields_names};
 ghost use Rattle.tls_codec_validate.specs.TaggedPlaces.{nothing_places};
 
 use crate::rejected::Rejected;

@@ -3,7 +3,7 @@ ghost use Rattle.tls_codec_validate.specs.Places.{here};
 
 use crate::rejected::Rejected;
 use crate::traits::Validate;
-use tls_codec_base::rejections::INVALID_UTF8;
+use tls_codec_base::error_texts::INVALID_UTF8;
 use tls_codec_base::{DeserializeBytes, opaque};
 use tls_codec_wire::TlsVarInt;
 

@@ -3,7 +3,7 @@ ghost use Rattle.std.specs.Prelude.{◌≡◌, ◌⊎◌, ℕ, IfErr, IfSome, Li
 ghost use Rattle.tls_codec_wire.specs.declared.error.Error.{Error};
 ghost use Rattle.tls_codec_wire.specs.declared.error.Error.TheVariants.{OutOfMemory, TrailingData};
 ghost use Rattle.tls_codec_grammar.specs.Decoding.{BeginsSome, LeavesBytes, ReadsWhole, Splits};
-ghost use Rattle.tls_codec_base.specs.Refusals.{IsSpelling};
+ghost use Rattle.tls_codec_base.specs.PartNames.{IsSpelling};
 ghost use Rattle.tls_codec_validate.specs.Places.{IsTrailing, RejectedAt};
 ghost use Rattle.tls_codec_validate.specs.Validated.{EachIs, Validates, ValidatesWhole};
 

@@ -7,7 +7,7 @@ ghost use Rattle.tls_codec_wire.specs.VarintCalls.{RefusesBelow};
 ghost use Rattle.tls_codec_grammar.specs.Field.{variable_field};
 ghost use Rattle.tls_codec_grammar.specs.Opaque.{OpaqueCopyRefused, TextRefused};
 ghost use Rattle.tls_codec_base.specs.Meanings.{too_few};
-ghost use Rattle.tls_codec_base.specs.Refusals.{fields_names};
+ghost use Rattle.tls_codec_base.specs.PartNames.{fields_names};
 ghost use Rattle.tls_codec_cases.specs.Chosen.{number_of};
 ghost use Rattle.tls_codec_cases.specs.Held.{first_of, second_of, third_of};
 ghost use Rattle.tls_codec_validate.specs.EnclosedPlaces.{enclosed_places};

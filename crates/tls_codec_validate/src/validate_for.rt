@@ -4,7 +4,7 @@ ghost use Rattle.tls_codec_wire.specs.declared.error.Error.{Error};
 ghost use Rattle.tls_codec_wire.specs.declared.error.Error.TheVariants.{OutOfMemory, TrailingData};
 ghost use Rattle.tls_codec_grammar.specs.Tree.{Tree};
 ghost use Rattle.tls_codec_grammar.specs.Decoding.{BeginsSome, LeavesBytes, ReadsWhole, Splits};
-ghost use Rattle.tls_codec_base.specs.Refusals.{IsSpelling};
+ghost use Rattle.tls_codec_base.specs.PartNames.{IsSpelling};
 ghost use Rattle.tls_codec_validate.specs.Keys.{RejectedFor, ValidatesFor};
 ghost use Rattle.tls_codec_validate.specs.Places.{IsTrailing, RejectedAt};
 ghost use Rattle.tls_codec_validate.specs.Validated.{EachIs, ValidatesWhole};

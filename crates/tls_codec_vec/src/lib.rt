@@ -6,8 +6,7 @@
 //! - [`list`]: [`TlsVec`] and its calls, and the names [`TlsVecU8`], [`TlsVecU16`], [`TlsVecU24`] and
 //!   [`TlsVecU32`].
 //! - [`collecting`]: what an iterator gives, as a list.
-//! - [`laws`]: what vectors stand for, how they are encoded and compared. It does nothing when it
-//!   runs.
+//! - [`laws`]: how vectors are encoded, converted, copied and compared. Its functions do nothing.
 #![tactic(auto)]
 
 mod coding;

@@ -9,7 +9,7 @@ use Rattle.tls_codec_grammar.specs.Field.{Field}
 use Rattle.tls_codec_grammar.specs.Tagged.{Variants}
 use Rattle.tls_codec_grammar.specs.Lawful.{IsLawful, MeetsFieldLaws, MeetsLaws}
 use Rattle.tls_codec_grammar.specs.Decoding.{BeginsSome}
-use Rattle.tls_codec_base.specs.Refusals.{IsSpelling}
+use Rattle.tls_codec_base.specs.PartNames.{IsSpelling}
 use Rattle.tls_codec_validate.specs.Keys.{KeyOf}
 use Rattle.tls_codec_views.proofs.Parts.{element_begins, elements_fewer, elements_left, first_begins, inside_left, others_left, second_left}
 use Rattle.tls_codec_views.specs.Views.{IsAfterLength, IsEncodedFor}

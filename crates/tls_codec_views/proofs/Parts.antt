@@ -10,7 +10,7 @@ use Rattle.tls_codec_grammar.specs.Format.{nothing_format}
 use Rattle.tls_codec_grammar.specs.Tagged.{Variants, either_format, no_format, tagged}
 use Rattle.tls_codec_grammar.specs.laws.NumberLaws.{number_lawful}
 use Rattle.tls_codec_grammar.specs.Decoding.{Begins, BeginsSome}
-use Rattle.tls_codec_base.specs.Refusals.{IsSpelling}
+use Rattle.tls_codec_base.specs.PartNames.{IsSpelling}
 use Rattle.tls_codec_base.specs.Values.{values}
 use Rattle.tls_codec_views.specs.Views.{IsAfterLength}
 

@@ -6,7 +6,7 @@ use Rattle.tls_codec_grammar.specs.Tree.{Number, Tree}
 use Rattle.tls_codec_grammar.specs.Grammar.{Grammar, number}
 use Rattle.tls_codec_grammar.specs.Decoding.{Begins}
 use Rattle.tls_codec_grammar.specs.Format.{Format}
-use Rattle.tls_codec_base.specs.Refusals.{IsSpelling}
+use Rattle.tls_codec_base.specs.PartNames.{IsSpelling}
 use Rattle.tls_codec_validate.specs.declared.rejected.Rejected.{Rejected}
 use Rattle.tls_codec_validate.specs.Keys.{KeyOf}
 use Rattle.tls_codec_validate.specs.Validated.{Rejects}

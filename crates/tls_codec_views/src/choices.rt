@@ -3,7 +3,7 @@ ghost use Rattle.std.specs.Prelude.{◌≡◌, Bool, true, ℕ, List};
 ghost use Rattle.tls_codec_grammar.specs.Tree.{Empty, Join, Number};
 ghost use Rattle.tls_codec_grammar.specs.Grammar.{Reading};
 ghost use Rattle.tls_codec_grammar.specs.Tagged.{Variants, tagged};
-ghost use Rattle.tls_codec_base.specs.Refusals.{IsSpelling};
+ghost use Rattle.tls_codec_base.specs.PartNames.{IsSpelling};
 ghost use Rattle.tls_codec_base.specs.Values.{values};
 ghost use Rattle.tls_codec_views.specs.Views.{IsCase};
 

@@ -3,7 +3,7 @@ ghost use Rattle.std.specs.Prelude.{◌≡◌, ◌++◌, [], MatchOption, is_som
 ghost use Rattle.tls_codec_grammar.specs.Tree.{Tree};
 ghost use Rattle.tls_codec_grammar.specs.Decoding.{BeginsSome};
 ghost use Rattle.tls_codec_grammar.specs.Grammar.{Reading};
-ghost use Rattle.tls_codec_base.specs.Refusals.{IsSpelling};
+ghost use Rattle.tls_codec_base.specs.PartNames.{IsSpelling};
 ghost use Rattle.tls_codec_views.specs.Views.{InEachContext};
 
 use crate::encoded::Encoded;

@@ -3,7 +3,7 @@ ghost use Rattle.std.specs.Prelude.{◌≡◌, ℕ, List, length};
 ghost use Rattle.std.specs.Iterator.{at_most};
 ghost use Rattle.tls_codec_grammar.specs.Field.{variable_field};
 ghost use Rattle.tls_codec_grammar.specs.Grammar.{content};
-ghost use Rattle.tls_codec_base.specs.Refusals.{IsSpelling};
+ghost use Rattle.tls_codec_base.specs.PartNames.{IsSpelling};
 ghost use Rattle.tls_codec_views.specs.Views.{GivesElement, IsAfterLength};
 
 use crate::content::after_length;

@@ -3,7 +3,7 @@ ghost use Rattle.std.specs.Prelude.{◌≡◌, ◌⊎◌, ◌++◌, ℕ, IfErr, 
 ghost use Rattle.tls_codec_grammar.specs.Decoding.{BeginsSome};
 ghost use Rattle.tls_codec_grammar.specs.Grammar.{Reading, fields, nothing};
 ghost use Rattle.tls_codec_base.specs.Paths.{NoMemory};
-ghost use Rattle.tls_codec_base.specs.Refusals.{IsSpelling};
+ghost use Rattle.tls_codec_base.specs.PartNames.{IsSpelling};
 ghost use Rattle.tls_codec_validate.specs.Places.{IsTrailing, RejectedAt};
 ghost use Rattle.tls_codec_validate.specs.Validated.{ValidatesWhole};
 ghost use Rattle.tls_codec_views.specs.Views.{SplitsEncoded};

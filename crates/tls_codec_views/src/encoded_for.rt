@@ -2,7 +2,7 @@
 ghost use Rattle.std.specs.Prelude.{◌≡◌, ◌⊎◌, ◌++◌, ℕ, IfErr, IfOk, List};
 ghost use Rattle.tls_codec_grammar.specs.Tree.{Tree};
 ghost use Rattle.tls_codec_grammar.specs.Decoding.{BeginsSome};
-ghost use Rattle.tls_codec_base.specs.Refusals.{IsSpelling};
+ghost use Rattle.tls_codec_base.specs.PartNames.{IsSpelling};
 ghost use Rattle.tls_codec_validate.specs.Places.{IsTrailing, RejectedAt};
 ghost use Rattle.tls_codec_validate.specs.Validated.{ValidatesWhole};
 ghost use Rattle.tls_codec_views.specs.Views.{IsEncodedFor};

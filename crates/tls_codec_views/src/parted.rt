@@ -1,6 +1,6 @@
 //! [`Parted`]: a message that is encoded as its parts are.
 ghost use Rattle.std.specs.Prelude.{◌≡◌, ℕ, List};
-ghost use Rattle.tls_codec_base.specs.Refusals.{IsSpelling};
+ghost use Rattle.tls_codec_base.specs.PartNames.{IsSpelling};
 
 use crate::encoded::Encoded;
 use std::marker::PhantomData;

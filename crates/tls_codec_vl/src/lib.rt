@@ -11,8 +11,8 @@
 //! - [`zeroize`]: [`Zeroize`], values that empty themselves.
 //! - [`secret_var_bytes`]: [`SecretVarBytes`], a [`VarBytes`] that is cleared when it is dropped, under two
 //!   names: [`SecretVLBytes`] and [`SecretVLByteVec`].
-//! - [`laws`]: what the types stand for, how they are encoded, compared and cleared. It does
-//!   nothing when it runs.
+//! - [`laws`]: conversions, copies, comparisons, `{:?}`, and clearing. Their functions do nothing. What the types
+//!   stand for, and how they are encoded: `types` of `tls_codec`.
 #![tactic(auto)]
 
 pub mod laws;

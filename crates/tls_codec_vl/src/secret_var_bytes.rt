@@ -37,7 +37,7 @@ pub struct SecretVarBytes<N>(VarBytes<N>);
 /// A [`VLBytes`](crate::VLBytes) as key material.
 pub type SecretVLBytes = SecretVarBytes<SecretVLBytesName>;
 
-/// The same under another name. It is another type.
+/// A [`SecretVLBytes`] under another name, and another type, as in the Rust crate. Only `{:?}` differs.
 pub type SecretVLByteVec = SecretVarBytes<SecretVLByteVecName>;
 
 impl<N> SecretVarBytes<N> {

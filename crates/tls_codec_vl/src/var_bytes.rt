@@ -37,7 +37,7 @@ pub struct VarBytes<N> {
 /// Bytes after a variable-length length.
 pub type VLBytes = VarBytes<VLBytesName>;
 
-/// The same under another name. It is another type.
+/// A [`VLBytes`] under another name, and another type, as in the Rust crate. Only `{:?}` differs.
 pub type VLByteVec = VarBytes<VLByteVecName>;
 
 impl<N> VarBytes<N> {

@@ -4,7 +4,7 @@ pub mod Bytes
 pub mod Filling
 pub mod Given
 pub mod Later
-pub mod Refused
+pub mod Seen
 pub mod Pieces
 pub mod VarintForms
 pub mod VarintReads

@@ -3,7 +3,7 @@ pub mod Counts
 pub mod Device
 pub mod Outside
 pub mod Bounded
-pub mod Refused
+pub mod Seen
 pub mod Transfer
 pub mod Digits
 pub mod Varint

@@ -19,7 +19,7 @@ ghost use Rattle.tls_codec_wire.specs.Counts.{no_counts, only_shortages};
 ghost use Rattle.tls_codec_wire.specs.Foreign.{IsIoError};
 ghost use Rattle.tls_codec_wire.specs.Names.{AreSame};
 ghost use Rattle.tls_codec_wire.specs.Outside.{GaveOutside, counts_of, wrapped};
-ghost use Rattle.tls_codec_wire.specs.Refused.{Seen};
+ghost use Rattle.tls_codec_wire.specs.Seen.{Seen};
 ghost use Rattle.tls_codec_wire.specs.Uint24 as uint24;
 ghost use Rattle.tls_codec_wire.specs.VarintValue as varint;
 ghost use Rattle.tls_codec_wire.specs.declared.bounded.Bounded.{Bounded};
@@ -49,7 +49,7 @@ use std::num::TryFromIntError;
 
 /// A wrapped reader reports the bytes that the reader reports. It has given what the reader lost,
 /// and counts these bytes. Its counts are its own.
-pub fn readers_outside_tell_what_is_to_come<R: Read>()
+pub fn readers_outside_report_what_is_to_come<R: Read>()
     ensures coming { (s : Outside R) → ⟦<Outside<R> as Source>⟧.coming s ≡ R.remaining (wrapped s) }
     ensures counts { (s : Outside R) → ⟦<Outside<R> as Source>⟧.counts s ≡ counts_of s }
     ensures given { (a b : Outside R) (g : List ℕ) → ⟦<Outside<R> as Source>⟧.given a g b ↔
@@ -58,19 +58,19 @@ pub fn readers_outside_tell_what_is_to_come<R: Read>()
 
 /// What a call has seen of a source is what was to come, if the source reports that. For a source
 /// that never reports any, it is what was given. It is never less than what was given.
-pub fn what_was_seen_was_told_or_given<R: Source>()
-    ensures told { (old new : R) (x y : List ℕ)
+pub fn what_was_seen_was_reported_or_given<R: Source>()
+    ensures reported { (old new : R) (x y : List ℕ)
         → Seen R.Source old new x
         → R.coming old ≡ Some y
         → x ≡ y }
-    ensures untold { (old new : R) (x : List ℕ) → Seen R.Source old new x
+    ensures unreported { (old new : R) (x : List ℕ) → Seen R.Source old new x
         → ((s : R) → R.coming s ≡ None) → R.given old x new }
     ensures more { (old new : R) (x : List ℕ) → Seen R.Source old new x
         → (g : List ℕ) × R.given old g new × (length g ≤ length x) }
 {}
 
 /// A wrapped writer reports the bytes that the writer reports. Its counts are its own.
-pub fn writers_outside_tell_what_was_received<W: Write>()
+pub fn writers_outside_report_what_was_received<W: Write>()
     ensures received { (s : Outside W) → ⟦<Outside<W> as Sink>⟧.received s
         ≡ W.contents (wrapped s) }
     ensures counts { (s : Outside W) → ⟦<Outside<W> as Sink>⟧.counts s ≡ counts_of s }
@@ -82,7 +82,7 @@ pub fn interruptions_are_tried_again()
 {}
 
 /// A slice reports its bytes, has given those that it lost, and never fails.
-pub fn slices_tell_their_bytes()
+pub fn slices_report_their_bytes()
     ensures coming { (s : Bor (List ℕ)) → ⟦<&'static [u8] as Source>⟧.coming s ≡ Some s.now }
     ensures counts { (s : Bor (List ℕ)) → ⟦<&'static [u8] as Source>⟧.counts s ≡ no_counts }
     ensures given { (a b : Bor (List ℕ)) (g : List ℕ) → ⟦<&'static [u8] as Source>⟧.given a g b
@@ -90,7 +90,7 @@ pub fn slices_tell_their_bytes()
 {}
 
 /// A vector reports the bytes that it holds, and fails for memory alone.
-pub fn vectors_tell_what_they_hold()
+pub fn vectors_report_what_they_hold()
     ensures received { (v : Vec ℕ Global) → ⟦<Vec<u8> as Sink>⟧.received v ≡ Some v.items }
     ensures counts { (v : Vec ℕ Global) → ⟦<Vec<u8> as Sink>⟧.counts v ≡ only_shortages }
 {}

@@ -4,7 +4,7 @@ ghost use Rattle.std.specs.Io.KnownBytes.{Appends};
 ghost use Rattle.tls_codec_wire.specs.Counts.{NoneFell, OnlyInterrupted};
 ghost use Rattle.tls_codec_wire.specs.Device.{Gave, Received};
 ghost use Rattle.tls_codec_wire.specs.Digits.{AreBytes};
-ghost use Rattle.tls_codec_wire.specs.Refused.{RefusedFor, Seen};
+ghost use Rattle.tls_codec_wire.specs.Seen.{RefusedFor, Seen};
 ghost use Rattle.tls_codec_wire.specs.Transfer.{EndRefused, ErrorOfFault, ReadRefused, TriedWithin, WriteRefused};
 ghost use Rattle.tls_codec_wire.specs.declared.error.Error.TheVariants.{EndOfStream};
 ghost use Rattle.tls_codec_wire.specs.declared.device.Fault.TheVariants.{Interrupted};

@@ -5,7 +5,7 @@
 ghost use Rattle.std.specs.Prelude.{◌≡◌, ◌^◌, ◌-◌, ◌<◌, ◌≤◌, ◌+◌, ◌++◌, length, vec_len, take, drop, is_ok, if◌then◌else◌, IfErr, IfOk, OnOk, MatchOption, OnErr};
 ghost use Rattle.tls_codec_wire.specs.Counts.{NoneFell, OnlyInterrupted};
 ghost use Rattle.tls_codec_wire.specs.Device.{Gave};
-ghost use Rattle.tls_codec_wire.specs.Refused.{RefusedFor};
+ghost use Rattle.tls_codec_wire.specs.Seen.{RefusedFor};
 ghost use Rattle.tls_codec_wire.specs.Numbers.{BeganNumber, BeginsNumber, GaveNumber, NumberNotRead, NumberNotSent, SentNumber};
 ghost use Rattle.tls_codec_wire.specs.Varint.{VectorLength, width_below};
 ghost use Rattle.tls_codec_wire.specs.VarintCalls.{InsertedLength, InsertRefused, RefusesBelow};

@@ -6,7 +6,7 @@ use std::test::Fail;
 use tls_codec::{
     Deserialize, DeserializeBytes, Error, SecretTlsVecU8, SecretVLByteVec, SecretVLBytes, Size,
     TlsByteVecU16, TlsSliceU16, TlsVarInt, TlsVecU8, TlsVecU16, U24, VLByteVec, VLBytes, equality,
-    refusals, types,
+    error_laws, types,
 };
 
 // Both paths read equal values of these bytes.
@@ -87,11 +87,11 @@ fn types_are_as_the_table_has_them(rt: HostRuntime) -> Result<(), Fail> {
 
 #[test]
 fn trailing_data_is_of_exact_forms_alone(rt: HostRuntime) -> Result<(), Fail> {
-    refusals::single_values_are_never_trailing::<3>();
-    refusals::bytes_are_never_trailing::<u16>();
-    refusals::parts_are_never_trailing::<u16, u8, U24, String>();
-    refusals::parts_read_are_never_trailing::<u16, u8, U24, String>();
-    refusals::contents_out_of_bounds_are_refused::<u8, u16>();
+    error_laws::single_values_are_never_trailing::<3>();
+    error_laws::bytes_are_never_trailing::<u16>();
+    error_laws::parts_are_never_trailing::<u16, u8, U24, String>();
+    error_laws::parts_read_are_never_trailing::<u16, u8, U24, String>();
+    error_laws::contents_out_of_bounds_are_refused::<u8, u16>();
     let alloc = rt.alloc();
     let longer = [1, 0, 7, 9];
     let (found, rest) = <Option<u16>>::tls_deserialize_bytes(alloc, &longer)?;

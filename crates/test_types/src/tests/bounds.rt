@@ -6,7 +6,7 @@ use std::alloc::Global;
 use std::process::Abort;
 use std::test::Fail;
 use tls_codec::{
-    Deserialize, Error, LengthField, TlsByteVec, TlsVec, Within, laws, refusals, types,
+    Deserialize, Error, LengthField, TlsByteVec, TlsVec, Within, error_laws, laws, types,
 };
 use tls_codec_vectors::Drip;
 
@@ -65,7 +65,7 @@ fn lengths_themselves(rt: HostRuntime) -> Result<(), Fail> {
     types::bounded_lengths::<u16, 2, 65_534>();
     types::bounded_vectors::<u16, 2, 65_534>();
     laws::contents_out_of_bounds_are_not_sent::<Within<u16, 2, 65_534>, u16>();
-    refusals::contents_out_of_bounds_are_refused::<Within<u16, 2, 65_534>, u16>();
+    error_laws::contents_out_of_bounds_are_refused::<Within<u16, 2, 65_534>, u16>();
     assert!(rt; Within::<u16, 2, 65_534>::form(1).is_none());
     assert!(rt; Within::<u16, 2, 65_534>::form(2).is_some());
     assert!(rt; Within::<u16, 2, 65_534>::form(65_534).is_some());

@@ -10,7 +10,7 @@ use tls_codec_wire::{Error, Sink};
 
 /// The pair [`Then<T, U>`](crate::Then) of a borrowed first part, as which a message is written.
 ///
-/// The parts before one that doesn't fit are sent; a vector has the bytes from before.
+/// `tls_serialize` sends the parts before one that doesn't fit. `tls_serialize_into` leaves a vector as it was.
 #[derive(Drop)]
 pub struct ByRefThen<'a, T, U> {
     /// The first part.
@@ -63,7 +63,7 @@ impl<'a, T: Serialize, U: SerializeFor<T>> Serialize for ByRefThen<'a, T, U> {
 /// The pair [`Then<T, (A, B)>`](crate::Then) of a borrowed first part, and of two parts that may
 /// each be borrowed.
 ///
-/// The parts before one that doesn't fit are sent; a vector has the bytes from before.
+/// `tls_serialize` sends the parts before one that doesn't fit. `tls_serialize_into` leaves a vector as it was.
 #[derive(Drop)]
 pub struct ByRefThen2<'a, T, A, B> {
     /// The first part.

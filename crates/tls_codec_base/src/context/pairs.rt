@@ -2,7 +2,7 @@
 ghost use Rattle.tls_codec_grammar.specs.Tree.{Empty, Join};
 ghost use Rattle.tls_codec_grammar.specs.Format.{pair_format};
 ghost use Rattle.tls_codec_grammar.specs.laws.FormatLaws.{pair_meets};
-ghost use Rattle.tls_codec_base.specs.Refusals.{fields_names, fields_source_names};
+ghost use Rattle.tls_codec_base.specs.PartNames.{fields_names, fields_source_names};
 
 use crate::context::traits::{DeserializeBytesFor, DeserializeFor, SerializeFor, SizeFor};
 use crate::traits::Size;

@@ -41,7 +41,8 @@ pub trait SerializeFor<C: Size>: SizeFor<C> {
     /// Appends the value's canonical encoding in this context to what the sink has received, and
     /// returns how many bytes that is, saturated at `usize::MAX`.
     ///
-    /// If a part doesn't fit, the sink may have received the parts before it. A vector has the bytes from before.
+    /// If a part doesn't fit, the sink may have received the parts before it, a vector too. After an error of
+    /// [`tls_serialize_into_for`](SerializeFor::tls_serialize_into_for) a vector has the bytes from before.
     fn tls_serialize_for<W: Sink>(&self, context: &C, writer: &mut W) -> Result<usize, Error>
         ensures writes { Writes (Self.format_for (C.plain context.now)) (Self.plain self.now) W.Sink
             writer.old writer.new result };

@@ -7,7 +7,7 @@ ghost use Rattle.tls_codec_grammar.specs.Gaps.{IsSafeGap};
 ghost use Rattle.tls_codec_grammar.specs.Format.{counted_list_format};
 ghost use Rattle.tls_codec_grammar.specs.Decoding.{Named, Reads, Splits};
 ghost use Rattle.tls_codec_grammar.specs.Encoding.{AppendRefused, Appended, AppendsForm, Writes};
-ghost use Rattle.tls_codec_base.specs.Refusals.{counted_list_names, counted_list_source_names};
+ghost use Rattle.tls_codec_base.specs.PartNames.{counted_list_names, counted_list_source_names};
 
 use crate::lists::engines::coding::{ElementCoding, ElementReader, ElementSplitter, ElementWriter};
 use crate::lists::{Turns, engines};

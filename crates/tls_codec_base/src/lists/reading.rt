@@ -1,10 +1,10 @@
 //! Elements that fill a declared number of bytes, from a slice and from a source.
 ghost use Rattle.std.specs.Prelude.{◌≡◌, ◌<◌, [], IfErr, IfOk, IsOkAnd};
-ghost use Rattle.tls_codec_wire.specs.Refused.{RefusedFor};
+ghost use Rattle.tls_codec_wire.specs.Seen.{RefusedFor};
 ghost use Rattle.tls_codec_grammar.specs.Tree.{trees};
 ghost use Rattle.tls_codec_grammar.specs.Format.{content_format, sized_format};
 ghost use Rattle.tls_codec_grammar.specs.Decoding.{Named, Reads, Splits};
-ghost use Rattle.tls_codec_base.specs.Refusals.{elements_names, elements_source_names};
+ghost use Rattle.tls_codec_base.specs.PartNames.{elements_names, elements_source_names};
 ghost use Rattle.tls_codec_base.specs.Turns.{SourceTurnedRefused, TurnedEach, TurnedRefused, TurnedWithin, TurnedWithinGiven};
 
 use crate::context::{DeserializeBytesFor, DeserializeFor};

@@ -7,7 +7,7 @@ ghost use Rattle.tls_codec_grammar.specs.Tree.{Number, trees};
 ghost use Rattle.tls_codec_grammar.specs.Grammar.{Reading, content, number};
 ghost use Rattle.tls_codec_grammar.specs.Format.{number_format};
 ghost use Rattle.tls_codec_grammar.specs.Decoding.{AllGiven, AllRead};
-ghost use Rattle.tls_codec_base.specs.Refusals.{NamedWithin};
+ghost use Rattle.tls_codec_base.specs.PartNames.{NamedWithin};
 ghost use Rattle.tls_codec_base.specs.Turns.{TurnedAll};
 ghost use Rattle.tls_codec_base.specs.Runs.{GaveRun, ReadsRun};
 

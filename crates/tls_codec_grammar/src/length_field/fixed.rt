@@ -4,7 +4,7 @@ ghost use Rattle.std.proofs.Common.{arith};
 ghost use Rattle.tls_codec_wire.specs.Counts.{OnlyInterrupted};
 ghost use Rattle.tls_codec_wire.specs.Device.{Gave};
 ghost use Rattle.tls_codec_wire.specs.Digits.{AreBytes, Digits, value};
-ghost use Rattle.tls_codec_wire.specs.Refused.{RefusedFor};
+ghost use Rattle.tls_codec_wire.specs.Seen.{RefusedFor};
 ghost use Rattle.tls_codec_wire.specs.Numbers.{BeginsNumber, GaveNumber, NumberNotRead};
 ghost use Rattle.tls_codec_grammar.specs.Field.{RefusesDigits, fixed_field};
 ghost use Rattle.tls_codec_grammar.specs.laws.FormatLaws.{fixed_field_meets};

@@ -6,7 +6,7 @@ ghost use Rattle.tls_codec_wire.specs.declared.error.Error.{Error};
 ghost use Rattle.tls_codec_grammar.specs.Tree.{Tree, trees};
 ghost use Rattle.tls_codec_grammar.specs.Format.{Format};
 ghost use Rattle.tls_codec_grammar.specs.Lawful.{MeetsLaws};
-ghost use Rattle.tls_codec_base.specs.Refusals.{NamedWithin};
+ghost use Rattle.tls_codec_base.specs.PartNames.{NamedWithin};
 ghost use Rattle.tls_codec_base.specs.Turns.{TurnedAll};
 ghost use Rattle.tls_codec_grammar.specs.Decoding.{AllGiven, AllRead, Named, Reads, Splits};
 ghost use Rattle.tls_codec_grammar.specs.Encoding.{AllSent, AppendsForm, Writes};

@@ -1,17 +1,17 @@
 //! Elements that fill a declared number of bytes, from a slice and from a source, however they are coded.
 ghost use Rattle.std.specs.Prelude.{◌≡◌, ◌<◌, [], ◌∷◌, ◌++◌, is_ok, if◌then◌else◌, vec_capacity, vec_len, IfErr, IfOk, IsOkAnd, OnOk};
-ghost use Rattle.tls_codec_wire.specs.Refused.{RefusedFor};
+ghost use Rattle.tls_codec_wire.specs.Seen.{RefusedFor};
 ghost use Rattle.tls_codec_grammar.specs.Tree.{trees};
 ghost use Rattle.tls_codec_grammar.specs.Format.{content_format, sized_format};
 ghost use Rattle.tls_codec_grammar.specs.Decoding.{Named, Reads, Splits};
-ghost use Rattle.tls_codec_base.specs.Refusals.{elements_names, elements_source_names};
+ghost use Rattle.tls_codec_base.specs.PartNames.{elements_names, elements_source_names};
 ghost use Rattle.tls_codec_base.specs.Filling.{FillsLimit};
 ghost use Rattle.tls_codec_wire.specs.declared.error.Error.TheVariants.{OutOfMemory};
 ghost use Rattle.tls_codec_base.specs.Turns.{SourceTurnedRefused, TurnedEach, TurnedRefused, TurnedWithin, TurnedWithinGiven};
 
 use crate::lists::Turns;
 use crate::lists::engines::coding::{ElementReader, ElementSplitter};
-use crate::rejections::{NO_BYTES, NOT_FILLED};
+use crate::error_texts::{NO_BYTES, NOT_FILLED};
 use std::alloc::{AllocError, Global};
 use tls_codec_wire::{Bounded, Error, Source};
 

@@ -44,8 +44,8 @@ returns-clause-first_leaves_out c = record {
   second = refl;
 }
 
-pub returns-clause-misfit_is_not_spelled : goal.returns-clause-misfit_is_not_spelled
-returns-clause-misfit_is_not_spelled c s p = p.second
+pub returns-clause-what_does_not_fit_is_not_spelled : goal.returns-clause-what_does_not_fit_is_not_spelled
+returns-clause-what_does_not_fit_is_not_spelled c s p = p.second
 
 pub returns-clause-pair_is_lawful : goal.returns-clause-pair_is_lawful
 returns-clause-pair_is_lawful c = then_meets (number_meets 1 (omega arith)) (λ v. present_meets (is_number 1 v) (number_meets 2 (omega arith)))

@@ -1,5 +1,5 @@
 use Rattle.std.proofs.Common.{Some, ap, ◌∙◌}
-use Rattle.tls_codec_wire.proofs.Refused.{told_cause}
+use Rattle.tls_codec_wire.proofs.Seen.{told_cause}
 use Rattle.tls_codec_base.proofs.BothPaths.{source_alone}
 use Rattle.tls_codec_validate.proofs.Decoders.{one_rest, was_front}
 use Rattle.tls_codec_validate.proofs.laws.what_is_validated_is_read.Goals as goal

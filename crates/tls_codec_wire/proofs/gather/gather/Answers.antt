@@ -4,7 +4,7 @@ use Rattle.tls_codec_wire.specs.declared.device.Fault.{Fault}
 use Rattle.tls_codec_wire.specs.Counts.{only_interrupted_refl}
 use Rattle.std.proofs.lemmas.List.{nil_from_length}
 use Rattle.std.proofs.lemmas.Result.{err_from_is_err_and}
-use Rattle.tls_codec_wire.proofs.Refused.{ended, fault_refuses, not_gathered, refused_now}
+use Rattle.tls_codec_wire.proofs.Seen.{ended, fault_refuses, not_gathered, refused_now}
 use Rattle.tls_codec_wire.proofs.gather.gather.Goals as goal
 
 pub returns-in_err-reserve_exact-clause-refused : goal.returns-in_err-reserve_exact-clause-refused

@@ -1,6 +1,6 @@
 use Rattle.std.proofs.Common.{arith, sym, subst, []}
 use Rattle.std.proofs.lemmas.Result.{err_from_is_err_and}
-use Rattle.tls_codec_wire.proofs.Refused.{refused_now}
+use Rattle.tls_codec_wire.proofs.Seen.{refused_now}
 use Rattle.tls_codec_wire.proofs.gather.read_bytes_bounded.Goals as goal
 
 pub returns-then-len-clause-refused : goal.returns-then-len-clause-refused

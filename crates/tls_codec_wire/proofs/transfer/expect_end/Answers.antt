@@ -1,8 +1,8 @@
 use Rattle.std.proofs.Common.{rules, subst, ap, ◌∙◌, Err}
-use Rattle.tls_codec_wire.specs.Refused.{RefusedFor}
+use Rattle.tls_codec_wire.specs.Seen.{RefusedFor}
 use Rattle.tls_codec_wire.specs.Transfer.{ReadRefused}
 use Rattle.tls_codec_wire.specs.declared.error.Error.{Error}
-use Rattle.tls_codec_wire.proofs.Refused.{at_end, end_refused, not_at_end, refused_so, seen_nothing}
+use Rattle.tls_codec_wire.proofs.Seen.{at_end, end_refused, not_at_end, refused_so, seen_nothing}
 use Rattle.tls_codec_wire.proofs.transfer.expect_end.Goals as goal
 
 pub returns-in-Ok-clause-refused : goal.returns-in-Ok-clause-refused

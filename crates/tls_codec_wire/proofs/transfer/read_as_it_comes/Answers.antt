@@ -3,7 +3,7 @@ use Rattle.tls_codec_wire.proofs.Bytes.{are_bytes}
 use Rattle.tls_codec_wire.proofs.Filling.{take-put_mid_more, take-put_mid_same}
 use Rattle.std.proofs.lemmas.Result.{err_from_is_err_and}
 use Rattle.tls_codec_wire.proofs.Given.{gave_both}
-use Rattle.tls_codec_wire.proofs.Refused.{ended, fault_refuses, refused_now}
+use Rattle.tls_codec_wire.proofs.Seen.{ended, fault_refuses, refused_now}
 use Rattle.tls_codec_wire.specs.Counts.{only_interrupted_refl}
 use Rattle.tls_codec_wire.proofs.transfer.read_as_it_comes.Goals as goal
 

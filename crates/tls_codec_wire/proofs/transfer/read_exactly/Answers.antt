@@ -1,7 +1,7 @@
 use Rattle.std.proofs.Common.{◌≡◌, arith, refl, subst, sym, ◌∙◌, length, []}
 use Rattle.std.proofs.lemmas.Bool.{eqb-false}
 use Rattle.tls_codec_wire.specs.Counts.{Counts, OnlyInterrupted, only_interrupted_refl}
-use Rattle.tls_codec_wire.proofs.Refused.{too_few}
+use Rattle.tls_codec_wire.proofs.Seen.{too_few}
 use Rattle.tls_codec_wire.proofs.Bytes.{are_bytes}
 use Rattle.tls_codec_wire.proofs.transfer.read_exactly.Goals as goal
 

@@ -1,7 +1,7 @@
 use Rattle.std.proofs.Common.{rules, arith, ◌≡◌, List, ℕ, [], ◌∷◌, ◌++◌, get_or, length, length-take, length-take-le, subst}
 use Rattle.std.proofs.lemmas.Result.{err_from_is_err_and}
 use Rattle.tls_codec_wire.proofs.Given.{gave_then}
-use Rattle.tls_codec_wire.proofs.Refused.{refused_later, refused_now, refused_so}
+use Rattle.tls_codec_wire.proofs.Seen.{refused_later, refused_now, refused_so}
 use Rattle.tls_codec_wire.proofs.VarintReads.{digits_read, no_first_byte, not_admitted, one_byte, spells_below, too_few_digits}
 use Rattle.tls_codec_wire.specs.Counts.{only_interrupted_none_fell, only_interrupted_trans}
 use Rattle.tls_codec_wire.proofs.varint_bits.read_below.Goals as goal

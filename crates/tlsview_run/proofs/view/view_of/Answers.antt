@@ -1,5 +1,5 @@
 use Rattle.std.proofs.Common.{refl}
-use Rattle.tls_codec.proofs.Refused.{told_cause}
+use Rattle.tls_codec.proofs.Seen.{told_cause}
 use Rattle.tlsview_run.proofs.Paths.{slice_has_no_memory, reader_has_no_memory, accepts, refuses}
 use Rattle.tlsview_run.proofs.view.view_of.Goals as goal
 

@@ -5,7 +5,7 @@ use Rattle.tls_codec.specs.Devices.{Counts, GivesInOrder, no_counts}
 use Rattle.tls_codec.specs.Spellings.{Refuses, RefusesSeen}
 use Rattle.tls_codec_grammar.specs.Format.{Format}
 use Rattle.tls_codec_grammar.specs.Tree.{Tree}
-use Rattle.tls_codec.proofs.Refused.{seen_untold}
+use Rattle.tls_codec.proofs.Seen.{seen_untold}
 use Rattle.tls_codec_base.proofs.Whole.{slice_refuses}
 use Rattle.test_calls.proofs.tests.quiet.value.Goals as goal
 

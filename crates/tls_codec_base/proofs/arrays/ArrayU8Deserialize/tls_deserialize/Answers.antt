@@ -1,4 +1,4 @@
-use Rattle.tls_codec_wire.proofs.Refused.{refused_so}
+use Rattle.tls_codec_wire.proofs.Seen.{refused_so}
 use Rattle.tls_codec_base.proofs.ArrayCalls.{array_given, array_refuses_source}
 use Rattle.tls_codec_base.proofs.arrays.ArrayU8Deserialize.tls_deserialize.Goals as goal
 

@@ -1,6 +1,6 @@
 use Rattle.std.proofs.Common.{inl, inr}
 use Rattle.std.proofs.lemmas.Result.{err_from_is_err_and}
-use Rattle.tls_codec_wire.proofs.Refused.{refused_later, refused_so}
+use Rattle.tls_codec_wire.proofs.Seen.{refused_later, refused_so}
 use Rattle.tls_codec_base.proofs.Coming.{named_after}
 use Rattle.tls_codec_grammar.proofs.CountedDecoding.{count_refused, counted_given, counted_leaves, counted_refused}
 use Rattle.tls_codec_base.proofs.context.enclosed.read_enclosed.Goals as goal

@@ -1,7 +1,7 @@
 use Rattle.std.proofs.Common.{◌≡◌, ℕ, Err, ◌++◌, ◌/◌, arith, ap, length, subst, ◌∙◌}
 use Rattle.std.proofs.lemmas.Result.{IfErr-at_err}
 use Rattle.tls_codec_wire.specs.Digits.{AreBytes}
-use Rattle.tls_codec_wire.specs.Refused.{RefusedFor, within}
+use Rattle.tls_codec_wire.specs.Seen.{RefusedFor, within}
 use Rattle.tls_codec_wire.specs.Transfer.{BytesRefused}
 use Rattle.tls_codec_base.proofs.NumberRunSources.{run_not_gathered}
 use Rattle.tls_codec_base.proofs.numbers.runs.gather_run.Goals as goal

@@ -1,6 +1,6 @@
 use Rattle.std.proofs.Common.{rules, ◌≡◌, length, inl, inr, refl}
 use Rattle.std.proofs.lemmas.Result.{err_from_is_err_and}
-use Rattle.tls_codec_wire.proofs.Refused.{refused_later, refused_now, refused_so}
+use Rattle.tls_codec_wire.proofs.Seen.{refused_later, refused_now, refused_so}
 use Rattle.tls_codec_base.proofs.Coming.{named_after}
 use Rattle.tls_codec_base.proofs.OptionDecoding.{no_tag_refused, one_byte_buffer, option_given, other_byte, other_tag_refused, payload_refused}
 use Rattle.tls_codec_base.proofs.options.OptionDeserialize.tls_deserialize.Goals as goal

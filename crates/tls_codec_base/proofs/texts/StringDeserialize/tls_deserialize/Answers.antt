@@ -2,7 +2,7 @@ use Rattle.std.proofs.Common.{Global, IsUtf8, Vec, inl, refl, subst, ℕ}
 use Rattle.std.proofs.lemmas.Result.{err_from_is_err_and}
 use Rattle.std.proofs.lemmas.Str.{IsUtf8-string_bytes}
 use Rattle.tls_codec_base.proofs.TextDecoding.{invalid_named, text_given, text_source_refuses}
-use Rattle.tls_codec_wire.proofs.Refused.{refused_so}
+use Rattle.tls_codec_wire.proofs.Seen.{refused_so}
 use Rattle.tls_codec_grammar.proofs.Named.{named_leaves}
 use Rattle.tls_codec_base.proofs.texts.StringDeserialize.tls_deserialize.Goals as goal
 

@@ -1,6 +1,6 @@
 use Rattle.std.proofs.lemmas.Result.{err_from_is_err_and}
 use Rattle.std.proofs.Common.{inr, refl}
-use Rattle.tls_codec_wire.proofs.Refused.{told_cause}
+use Rattle.tls_codec_wire.proofs.Seen.{told_cause}
 use Rattle.tls_codec_base.proofs.Whole.{begins_whole, refuses_trailing, refuses_whole, slice_begins, slice_refuses}
 use Rattle.tls_codec_base.proofs.traits.Deserialize.tls_deserialize_exact.Goals as goal
 

@@ -1,5 +1,5 @@
 use Rattle.std.proofs.lemmas.Result.{err_from_is_err_and}
-use Rattle.tls_codec_wire.proofs.Refused.{refused_so}
+use Rattle.tls_codec_wire.proofs.Seen.{refused_so}
 use Rattle.tls_codec_grammar.proofs.VarintValues.{varint_refused}
 use Rattle.tls_codec_base.proofs.varint.TlsVarIntDeserialize.tls_deserialize.Goals as goal
 

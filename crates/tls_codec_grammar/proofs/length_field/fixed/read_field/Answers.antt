@@ -1,4 +1,4 @@
-use Rattle.tls_codec_wire.proofs.Refused.{refused_so, seen_gave}
+use Rattle.tls_codec_wire.proofs.Seen.{refused_so, seen_gave}
 use Rattle.tls_codec_grammar.proofs.NumberRefusals.{field_not_read}
 use Rattle.tls_codec_grammar.proofs.length_field.fixed.read_field.Goals as goal
 

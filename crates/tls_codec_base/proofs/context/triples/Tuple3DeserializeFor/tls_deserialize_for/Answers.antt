@@ -1,7 +1,7 @@
 use Rattle.std.proofs.lemmas.Result.{err_from_is_err_and}
 use Rattle.tls_codec_grammar.specs.Format.{fields_format, nothing_format}
 use Rattle.tls_codec_base.proofs.FieldsDecoding.{fields_given, fields_leaves_first, fields_leaves_others, fields_named_first, fields_named_others, last_named, nothing_given}
-use Rattle.tls_codec_base.specs.Refusals.{fields_source_names}
+use Rattle.tls_codec_base.specs.PartNames.{fields_source_names}
 use Rattle.tls_codec_base.proofs.context.triples.Tuple3DeserializeFor.tls_deserialize_for.Goals as goal
 
 pub returns-in_err-first-clause-reads : goal.returns-in_err-first-clause-reads

@@ -1,7 +1,7 @@
 use Rattle.std.proofs.Common.{rules, ◌≡◌, ◌∙◌, ◌++◌, ◌∷◌, [], arith, ap, inl, inr, length, length-append, refl, sym}
 use Rattle.std.proofs.lemmas.Result.{err_from_is_err_and}
 use Rattle.tls_codec_wire.specs.Bounded.{gives_in_order_within}
-use Rattle.tls_codec_wire.proofs.Refused.{seen_gave}
+use Rattle.tls_codec_wire.proofs.Seen.{seen_gave}
 use Rattle.tls_codec_base.proofs.Filling.{filled, not_filled}
 use Rattle.tls_codec_base.proofs.ListSources.{given_empty, given_inside, given_more, list_of_hollow, list_refused, list_without_memory, refused_inside}
 use Rattle.tls_codec_base.proofs.Turns.{why_refused}

@@ -3,7 +3,7 @@ use Rattle.std.specs.Prelude.{IfErr}
 use Rattle.tls_codec_wire.specs.Bounded.{inner_of}
 use Rattle.tls_codec_grammar.specs.Format.{content_format, sized_format}
 use Rattle.tls_codec_grammar.specs.Decoding.{Named}
-use Rattle.tls_codec_base.specs.Refusals.{elements_source_names}
+use Rattle.tls_codec_base.specs.PartNames.{elements_source_names}
 use Rattle.tls_codec_base.proofs.lists.engines.reading.read.Goals as goal
 
 pub returns-clause-named : goal.returns-clause-named

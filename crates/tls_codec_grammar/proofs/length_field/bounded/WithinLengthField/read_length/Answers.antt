@@ -1,5 +1,5 @@
 use Rattle.std.proofs.Common.{inr, refl}
-use Rattle.tls_codec_wire.proofs.Refused.{refused_now}
+use Rattle.tls_codec_wire.proofs.Seen.{refused_now}
 use Rattle.tls_codec_grammar.proofs.length_field.bounded.WithinLengthField.read_length.Goals as goal
 
 pub returns-then-not-is_between-clause-refused : goal.returns-then-not-is_between-clause-refused

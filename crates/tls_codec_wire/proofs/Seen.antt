@@ -6,7 +6,7 @@ use Rattle.std.proofs.lemmas.List.{nil_from_length, take_all}
 use Rattle.std.specs.Io.KnownBytes.{Consumes, IsAtEnd}
 use Rattle.tls_codec_wire.specs.Counts.{Counts, OnlyInterrupted, RoseBy}
 use Rattle.tls_codec_wire.specs.Device.{FaultRaises, Gave, GivesFromFront, GivesInOrder, GivesNothing}
-use Rattle.tls_codec_wire.specs.Refused.{Causes, RefusedFor, Seen, reported_or, within}
+use Rattle.tls_codec_wire.specs.Seen.{Causes, RefusedFor, Seen, reported_or, within}
 use Rattle.tls_codec_wire.specs.Bounded.{inner_of, limit_of}
 use Rattle.tls_codec_wire.specs.declared.bounded.Bounded.{Bounded}
 use Rattle.tls_codec_wire.specs.Transfer.{BytesRefused, EndRefused, ErrorOfFault, IsShortOf, ReadRefused}

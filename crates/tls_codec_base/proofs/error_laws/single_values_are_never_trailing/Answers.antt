@@ -1,5 +1,5 @@
 use Rattle.tls_codec_base.proofs.Trailing.{text_never, text_source_never}
-use Rattle.tls_codec_base.proofs.refusals.single_values_are_never_trailing.Goals as goal
+use Rattle.tls_codec_base.proofs.error_laws.single_values_are_never_trailing.Goals as goal
 
 pub returns : goal.returns
 returns g c = record {

@@ -9,11 +9,11 @@ use Rattle.tls_codec_wire.specs.declared.error.Error.{Error}
 -- the bytes to come, if the source reports them, else those that were given
 abbrev pub reported_or : Option (List ℕ) → List ℕ → List ℕ
 reported_or None gave = gave
-reported_or (Some told) gave = told
+reported_or (Some reported) gave = reported
 
 -- x is what a call could see. For a slice these are all bytes to come; for a file, those given. A
 -- later step sees more: first what was given before it (`front`, up to the state `at`), then what
--- the source reports at `at`, or gave then (`rest`). The law is `what_was_seen_was_told_or_given`.
+-- the source reports at `at`, or gave then (`rest`). The law is `what_was_seen_was_reported_or_given`.
 pub record Seen {S : Type 0} (source : Ghosts S) (old new : S) (x : List ℕ) : Type 0 where
   pub front : List ℕ
   pub at : S

@@ -5,7 +5,7 @@ use Rattle.tls_codec_wire.specs.Counts.{Counts, NoneFell}
 use Rattle.tls_codec_wire.specs.declared.bounded.Bounded.{Bounded}
 use Rattle.tls_codec_wire.specs.declared.device.Source.{Ghosts}
 use Rattle.tls_codec_wire.specs.Numbers.{NumberNotRead}
-use Rattle.tls_codec_wire.specs.Refused.{Causes, Seen}
+use Rattle.tls_codec_wire.specs.Seen.{Causes, Seen}
 use Rattle.tls_codec_wire.specs.Transfer.{EndRefused, ReadRefused}
 use Rattle.tls_codec_wire.specs.declared.error.Error.{Error}
 use Rattle.tls_codec_wire.specs.declared.error.Error.TheVariants.{EndOfStream, OutOfMemory}

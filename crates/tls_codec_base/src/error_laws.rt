@@ -14,7 +14,7 @@ ghost use Rattle.tls_codec_grammar.specs.Field.{variable_field};
 ghost use Rattle.tls_codec_grammar.specs.Format.{counted_list_format, text_format};
 ghost use Rattle.tls_codec_grammar.specs.Encoding.{AppendsForm, Makes};
 ghost use Rattle.tls_codec_grammar.specs.Opaque.{OpaqueCopyRefused, OpaqueSourceRefused};
-ghost use Rattle.tls_codec_base.specs.Refusals.{counted_list_names, counted_list_source_names};
+ghost use Rattle.tls_codec_base.specs.PartNames.{counted_list_names, counted_list_source_names};
 ghost use Rattle.tls_codec_base.specs.Trailing.{NeverTrailing, SourceNeverTrailing};
 
 use crate::traits::{Deserialize, DeserializeBytes, Size};

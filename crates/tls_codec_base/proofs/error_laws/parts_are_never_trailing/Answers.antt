@@ -1,5 +1,5 @@
 use Rattle.tls_codec_base.proofs.Trailing.{box_never, fields_never, list_never, option_never}
-use Rattle.tls_codec_base.proofs.refusals.parts_are_never_trailing.Goals as goal
+use Rattle.tls_codec_base.proofs.error_laws.parts_are_never_trailing.Goals as goal
 
 pub returns : goal.returns
 returns g c = record {

@@ -1,4 +1,4 @@
--- The numbers of an error.
+-- The status and the detail of an error, in plain numbers.
 use Rattle.std.specs.Prelude.{ℕ}
 use Rattle.tls_codec_wire.specs.declared.error.Error.{Error}
 use Rattle.tls_codec_wire.specs.declared.error.Error.TheVariants.{EncodingError, InvalidVectorLength, InvalidWriteLength, InvalidInput, DecodingError, EndOfStream, TrailingData, UnknownValue, LibraryError, OutOfMemory}

@@ -1,5 +1,5 @@
 use Rattle.tls_codec_base.proofs.Trailing.{box_source_never, fields_source_never, list_source_never, option_source_never}
-use Rattle.tls_codec_base.proofs.refusals.parts_read_are_never_trailing.Goals as goal
+use Rattle.tls_codec_base.proofs.error_laws.parts_read_are_never_trailing.Goals as goal
 
 pub returns : goal.returns
 returns g c = record {

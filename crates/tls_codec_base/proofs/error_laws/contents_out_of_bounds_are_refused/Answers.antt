@@ -12,7 +12,7 @@ use Rattle.tls_codec_grammar.specs.Encoding.{AppendsForm, Makes}
 use Rattle.tls_codec_grammar.specs.laws.FormatLaws.{content_meets, counted_list_meets, text_meets, utf8_meets}
 use Rattle.tls_codec_grammar.proofs.Appending.{out_of_bounds_no_form}
 use Rattle.tls_codec_base.proofs.OutOfBounds.{content_out_of_bounds, text_out_of_bounds}
-use Rattle.tls_codec_base.proofs.refusals.contents_out_of_bounds_are_refused.Goals as goal
+use Rattle.tls_codec_base.proofs.error_laws.contents_out_of_bounds_are_refused.Goals as goal
 
 -- a value out of bounds, of which nothing inside the format names a refusal
 module _ {f : Format} (l : MeetsLaws f) {v : Tree} (outside : f.out_of_bounds v) (alone : (e : Error) → f.refuses v e → e ≡ InvalidVectorLength) where
