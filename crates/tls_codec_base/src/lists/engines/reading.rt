@@ -9,9 +9,9 @@ ghost use Rattle.tls_codec_base.specs.Filling.{FillsLimit};
 ghost use Rattle.tls_codec_wire.specs.declared.error.Error.TheVariants.{OutOfMemory};
 ghost use Rattle.tls_codec_base.specs.Turns.{SourceTurnedRefused, TurnedEach, TurnedRefused, TurnedWithin, TurnedWithinGiven};
 
+use crate::error_texts::{NO_BYTES, NOT_FILLED};
 use crate::lists::Turns;
 use crate::lists::engines::coding::{ElementReader, ElementSplitter};
-use crate::error_texts::{NO_BYTES, NOT_FILLED};
 use std::alloc::{AllocError, Global};
 use tls_codec_wire::{Bounded, Error, Source};
 
