@@ -19,7 +19,7 @@ import pathlib
 from collections.abc import Callable, Iterator
 from typing import TypeVar, Union
 
-from tls_codec_exports import CALLS, FIELDS, MARK, SENTENCES, STATUSES, VERSION, MlsWireFormat
+from tls_codec_exports import CALLS, FIELDS, MARK, OTHER_STATUS, SENTENCES, STATUSES, VERSION, MlsWireFormat
 
 __version__ = VERSION
 Buffer = Union[bytes, bytearray, memoryview]
@@ -61,7 +61,7 @@ class Rejected(ValueError):
     def __init__(self, status: int, at: int | None, detail: int = 0) -> None:
         self.status, self.at, self.detail = status, at, detail
         self.error = STATUSES[status] if status < len(STATUSES) else str(status)
-        self.sentence = SENTENCES.get(self.error, "")
+        self.sentence = SENTENCES.get(self.error, OTHER_STATUS)
         number = f" ({detail})" if self.error == "UnknownValue" else ""
         super().__init__(f"{self.error}{number}" + ("" if at is None else f" at byte {at}"))
 

@@ -6,7 +6,7 @@ import enum
 VERSION = "0.3.0"
 
 # What archives of this version and these headers have beside them.
-MARK = "0.3.0 f066d2b3725f7b1e"
+MARK = "0.3.0 5cd30570cc50c3ee"
 
 # The names of the statuses, by their numbers.
 STATUSES = [
@@ -34,6 +34,9 @@ SENTENCES = {
     "UnknownValue": "A number names no case of this message, or isn't the value that a field must have.",
     "OutOfMemory": "Memory ran out.",
 }
+
+# The sentence on another status.
+OTHER_STATUS = "A status that these declarations don't know."
 
 # The functions that are given bytes, and then what they fill.
 CALLS = [

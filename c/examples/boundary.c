@@ -16,7 +16,7 @@ int main(void) {
   if (outcome.status != TLS_CODEC_ACCEPTED) {
     fputs(tls_codec_status_name(outcome.status), stderr);
     if (outcome.status == TLS_CODEC_UNKNOWN_VALUE) fprintf(stderr, " (%" PRIu64 ")", outcome.detail);
-    fprintf(stderr, " at byte %zu of %zu\n", outcome.at, length);
+    fprintf(stderr, " at byte %zu of %zu: %s\n", outcome.at, length, tls_codec_status_sentence(outcome.status));
     return 1;
   }
   return fwrite(bytes, 1, length, stdout) != length || fflush(stdout) != 0;

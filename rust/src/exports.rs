@@ -68,7 +68,7 @@ impl Error {
             Error::TrailingData => "Bytes come after the message, or after a part that was to fill a length.",
             Error::UnknownValue(_) => "A number names no case of this message, or isn't the value that a field must have.",
             Error::OutOfMemory => "Memory ran out.",
-            _ => "No call of these returns it.",
+            _ => "A status that these declarations don't know.",
         }
     }
 }

@@ -21,11 +21,14 @@ def boundary(room: Room) -> None:
     message = bytes.fromhex(COMMIT.read_text())
     if room.run([program], message) != message:
         raise Failed("a message isn't let through as it is")
-    if room.run([program], message + b"\0", status=1) != b"TrailingData at byte 94 of 95\n":
+    said = "TrailingData at byte 94 of 95: Bytes come after the message, or after a part that was to fill a length.\n"
+    if room.run([program], message + b"\0", status=1) != said.encode():
         raise Failed("a byte after a message has another outcome")
-    if room.run([program], message[:3], status=1) != b"EndOfStream at byte 2 of 3\n":
+    said = "EndOfStream at byte 2 of 3: The message, or a list in it, ends within a field.\n"
+    if room.run([program], message[:3], status=1) != said.encode():
         raise Failed("a message that is cut short has another outcome")
-    if room.run([program], message[:3] + b"\6" + message[4:], status=1) != b"UnknownValue (6) at byte 2 of 94\n":
+    said = "UnknownValue (6) at byte 2 of 94: A number names no case of this message, or isn't the value that a field must have.\n"
+    if room.run([program], message[:3] + b"\6" + message[4:], status=1) != said.encode():
         raise Failed("a message of another kind has another outcome")
     with open("/dev/full", "wb") as full:
         if not subprocess.run([program], input=message, stdout=full).returncode:

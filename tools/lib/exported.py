@@ -286,6 +286,10 @@ def numbers() -> list[tuple[str, bool, int]]:
     return found
 
 
+# The sentence on a number that is none of these statuses, or that no call returns.
+OTHER_STATUS = "A status that these declarations don't know."
+
+
 def sentences() -> dict[str, str]:
     """The sentence for a person to read on each error that a caller may get, as docs/ERRORS.md has it."""
     table = (TOP / "docs/ERRORS.md").read_text().partition("\n## For a person to read\n")[2]

@@ -9,7 +9,7 @@ import re
 
 from lib.exported import CALLS, MEANINGS, MODULES, WHOLE, WRITTEN, Export
 from lib.exported import about, archive_of, exports_of, filled, libraries, module_of, named_as_in_the_rfc, numbers, struct_of, structs
-from lib.exported import sentences, taken_by, type_in_c, validators
+from lib.exported import OTHER_STATUS, sentences, taken_by, type_in_c, validators
 from lib.failed import Failed
 from lib.headers import CONTRACT, LISTS, READERS, WHOLE_OUTCOME
 from lib.libraries import TOP
@@ -92,10 +92,10 @@ def outcome_header(of_headers: str) -> str:
     body += ["static inline const char *tls_codec_status_name(uint32_t status) {", "  switch (status) {"]
     body += [f'  case TLS_CODEC_{spaced(name)}: return "{name}";' for name, _, _ in names]
     body += ['  default: return "?";', "  }", "}", ""]
-    body += [*comment('A sentence on a status, for a person to read; "?" of a number that no call returns.')]
+    body += [*comment("A sentence on a status, for a person to read.")]
     body += ["static inline const char *tls_codec_status_sentence(uint32_t status) {", "  switch (status) {"]
     body += [f'  case TLS_CODEC_{spaced(name)}: return "{sentence}";' for name, sentence in sentences().items()]
-    body += ['  default: return "?";', "  }", "}"]
+    body += [f'  default: return "{OTHER_STATUS}";', "  }", "}"]
     return guarded("outcome", "tls_codec_outcome", body)
 
 

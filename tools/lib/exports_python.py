@@ -3,7 +3,7 @@ from __future__ import annotations
 
 import json
 
-from lib.exported import WRITTEN, Export, exports_of, libraries, named_as_in_the_rfc, numbers, sentences, struct_of, taken_by
+from lib.exported import OTHER_STATUS, WRITTEN, Export, exports_of, libraries, named_as_in_the_rfc, numbers, sentences, struct_of, taken_by
 from lib.exports_c import mark, version
 from lib.registries import enums_in_python
 
@@ -50,7 +50,8 @@ def exports_python() -> str:
     lines += [f'    "{name}",' for name in ("Accepted", *[name for name, _, _ in numbers()])]
     lines += ["]", "", "# A sentence on each, for a person to read, of those that a call returns.", "SENTENCES = {"]
     lines += [f"    {json.dumps(name)}: {json.dumps(sentence)}," for name, sentence in sentences().items()]
-    lines += ["}", "", "# The functions that are given bytes, and then what they fill.", "CALLS = ["]
+    lines += ["}", "", "# The sentence on another status.", f"OTHER_STATUS = {json.dumps(OTHER_STATUS)}", ""]
+    lines += ["# The functions that are given bytes, and then what they fill.", "CALLS = ["]
     lines += [f'    "{it}",' for it in called_by_outcome()]
     lines += ["]", "", "# What `NAME_locate_prefix` fills, in this order, by NAME.", "FIELDS = {"]
     lines += [f'    "{message}": {json.dumps(names)},' for message, names in located_fields().items()]

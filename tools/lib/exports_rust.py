@@ -6,7 +6,7 @@ import re
 
 from lib.exported import CALLS, MEANINGS, WRITTEN, Export
 from lib.exported import about, archive_of, decoders, exports_of, filled, libraries, module_of, named_as_in_the_rfc, numbers, struct_of
-from lib.exported import sentences, taken_by, validators
+from lib.exported import OTHER_STATUS, sentences, taken_by, validators
 from lib.failed import Failed
 from lib.registries import enums_in_rust
 
@@ -224,7 +224,7 @@ def exports_rust() -> str:
     body += ["    pub fn sentence(&self) -> &'static str {", "        match self {"]
     said = [(f"{name}(_)" if name in values else name, sentence) for name, sentence in sentences().items() if name != "Accepted"]
     body += [f'            Error::{name} => "{sentence}",' for name, sentence in said]
-    body += ['            _ => "No call of these returns it.",', "        }", "    }", "}"]
+    body += [f'            _ => "{OTHER_STATUS}",', "        }", "    }", "}"]
     body += ["", *struct_in_rust("Span")]
     for crate in libraries():
         body += decoders_in_rust(crate) if crate in decoders() else module_in_rust(crate)

@@ -25,7 +25,7 @@
 #define TLS_CODEC_VERSION_NUMBER 300
 
 /* The line that `tls_codec.version` beside archives of just these headers has. */
-#define TLS_CODEC_HEADERS "0.3.0 f066d2b3725f7b1e"
+#define TLS_CODEC_HEADERS "0.3.0 5cd30570cc50c3ee"
 
 /* A call's status. The numbers don't change. */
 enum tls_codec_status {
@@ -114,7 +114,7 @@ static inline const char *tls_codec_status_name(uint32_t status) {
   }
 }
 
-/* A sentence on a status, for a person to read; "?" of a number that no call returns. */
+/* A sentence on a status, for a person to read. */
 static inline const char *tls_codec_status_sentence(uint32_t status) {
   switch (status) {
   case TLS_CODEC_ACCEPTED: return "The bytes are accepted.";
@@ -125,7 +125,7 @@ static inline const char *tls_codec_status_sentence(uint32_t status) {
   case TLS_CODEC_TRAILING_DATA: return "Bytes come after the message, or after a part that was to fill a length.";
   case TLS_CODEC_UNKNOWN_VALUE: return "A number names no case of this message, or isn't the value that a field must have.";
   case TLS_CODEC_OUT_OF_MEMORY: return "Memory ran out.";
-  default: return "?";
+  default: return "A status that these declarations don't know.";
   }
 }
 

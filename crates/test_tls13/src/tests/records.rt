@@ -22,10 +22,10 @@ pub(super) fn append_fragment(messages: &mut Vec<u8>, record: &TLSPlaintext) -> 
         return Err(Error::UnknownValue(u64::from(record.kind.0)));
     }
     if fragment.is_empty() || fragment.len() > FRAGMENT {
-        return Err(Error::InvalidVectorLength);
+        return Err(Error::DecodingError("fragment is empty or too long"));
     }
     if fragment.len() > MOST.saturating_sub(messages.len()) {
-        return Err(Error::InvalidVectorLength);
+        return Err(Error::DecodingError("messages are too long"));
     }
     messages.extend_from_slice(fragment)?;
     Ok(())
@@ -148,7 +148,10 @@ fn records_without_a_message(rt: HostRuntime) -> Result<(), Fail> {
     let mut messages = Vec::new(alloc);
     for (bytes, error) in [
         ([21, 3, 3, 0, 2, 2, 50].as_slice(), Error::UnknownValue(21)),
-        (&[22, 3, 3, 0, 0], Error::InvalidVectorLength),
+        (
+            &[22, 3, 3, 0, 0],
+            Error::DecodingError("fragment is empty or too long"),
+        ),
         (&[22, 3, 3, 0, 2, 24], Error::EndOfStream),
     ] {
         let rejected = take_record(alloc, &mut messages, bytes).err();
@@ -174,14 +177,15 @@ fn messages_of_other_lengths(rt: HostRuntime) -> Result<(), Fail> {
 fn too_many_bytes(rt: HostRuntime) -> Result<(), Fail> {
     let alloc = rt.alloc();
     let mut messages = Vec::new(alloc);
-    let too_long = Some(Error::InvalidVectorLength);
+    let long_fragment = Some(Error::DecodingError("fragment is empty or too long"));
+    let long_messages = Some(Error::DecodingError("messages are too long"));
     for (length, rejected, kept) in [
-        (16_385, too_long, 0),
+        (16_385, long_fragment, 0),
         (16_384, None, 16_384),
         (16_384, None, 32_768),
         (16_384, None, 49_152),
         (16_384, None, 65_536),
-        (1, too_long, 65_536),
+        (1, long_messages, 65_536),
     ] {
         let record = TLSPlaintext {
             kind: ContentType::HANDSHAKE,

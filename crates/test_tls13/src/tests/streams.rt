@@ -23,7 +23,7 @@ fn next_record<R: Read>(
     let is_too_long = limited.limit() == 0;
     match found {
         Ok(record) => Ok(Some(record)),
-        Err(Error::EndOfStream) if is_too_long => Err(Error::InvalidVectorLength),
+        Err(Error::EndOfStream) if is_too_long => Err(Error::DecodingError("record is too long")),
         Err(Error::EndOfStream) if input.moved() == before => Ok(None),
         Err(error) => Err(error),
     }
@@ -40,11 +40,11 @@ fn read_hello<R: Read>(alloc: Global, input: &mut Outside<R>) -> Result<ClientHe
         if let Some((message, _)) = take_message(&messages)? {
             return match message.to_value(alloc)? {
                 Handshake::ClientHello(hello) => Ok(hello),
-                _ => Err(Error::InvalidInput),
+                _ => Err(Error::DecodingError("message is no ClientHello")),
             };
         }
     }
-    Err(Error::InvalidVectorLength)
+    Err(Error::DecodingError("messages are too long"))
 }
 
 // A message in records of `most` bytes each. The last may have fewer.
@@ -118,8 +118,8 @@ fn streams_without_a_client_hello(rt: HostRuntime) -> Result<(), Fail> {
             &records_of(alloc, slice(&rt, &hello, 0, 100), 10)?,
             Error::EndOfStream,
         ),
-        (&long, Error::InvalidVectorLength),
-        (&other, Error::InvalidInput),
+        (&long, Error::DecodingError("record is too long")),
+        (&other, Error::DecodingError("message is no ClientHello")),
     ] {
         let found = read_hello(alloc, &mut Outside::new(stream));
         same(found.err(), Some(error))?;
