@@ -16,6 +16,7 @@ import re
 from collections.abc import Callable, Iterator
 
 from lib import exported, rejections, row_reader
+from lib.blocks import NOT_QUOTED, blocks
 from lib.libraries import CRATES, PAGES, TOP
 
 ERRORS = TOP / "docs/ERRORS.md"
@@ -189,8 +190,11 @@ def sentence_findings() -> tuple[list[str], int]:
 
 
 def wrong_texts(page: str, made: set[str]) -> Iterator[str]:
-    """The texts of errors in this page that no error of the library has."""
-    for text in sorted(set(re.findall(r'(?:De|En)codingError\("[^"]+"\)', page)) - made):
+    """The texts of errors in this page that no error of the library has. Quoted code in Rust may have errors of its own."""
+    quoted = [lines for before, kind, lines in blocks(page.split("\n")) if kind == "rust" and not any(map(NOT_QUOTED.search, before[-1:]))]
+    of_code = {line for lines in quoted for _, line in lines}
+    others = "\n".join(line for line in page.split("\n") if line.strip() not in of_code)
+    for text in sorted(set(re.findall(r'(?:De|En)codingError\("[^"]+"\)', others)) - made):
         yield f"no error of the library: {text}"
 
 
@@ -253,6 +257,7 @@ def selftest() -> tuple[list[str], int]:
         "a status of what no call returns": wrong_statuses(listed, numbers, {"One", "Three"}),
         "an error without a row": wrong_statuses(listed, {**numbers, "Four": 4}, {"Three"}),
         "a text of no error": wrong_texts('`DecodingError("one")`, `EncodingError("two")`', {'DecodingError("one")'}),
+        "a text of no error, in a block": wrong_texts('<!-- not quoted -->\n```rust\nErr(DecodingError("one"))\n```', set()),
         "a kind that isn't listed": wrong_kinds(page.replace(" two", ""), ["one", "two", "three"], specs),
         "a kind that isn't there": wrong_kinds(page, ["one", "two", "three"], specs.replace('"two"', '"four"')),
         "no list of kinds": wrong_kinds("kinds", ["one", "two", "three"], specs),
@@ -263,6 +268,7 @@ def selftest() -> tuple[list[str], int]:
     sound = [*wrong_figures("It has 2,216 rows.", r"([\d,]+) rows", 2216), *wrong_figures("It has ten rows.", place, 10)]
     sound += [*wrong_statuses(listed, numbers, {"Three"}), *wrong_kinds(page, ["one", "two", "three"], specs)]
     sound += wrong_texts('`DecodingError("one")`', {'DecodingError("one")'})
+    sound += wrong_texts('```rust\nErr(DecodingError("one"))\n```', set())
     return missed + [f"selftest: found: {it}" for it in sound], 1
 
 
