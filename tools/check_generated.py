@@ -16,6 +16,7 @@ import tempfile
 from lib import cases
 from lib.generated import RUNS, add, stored_files
 from lib.libraries import CRATES, DATA
+from lib.words import is_to_write
 
 STORED = "hello"
 
@@ -100,4 +101,4 @@ def compare() -> int:
 
 
 if __name__ == "__main__":
-    sys.exit(write() if sys.argv[1:] == ["--write"] else compare())
+    sys.exit(write() if is_to_write() else compare())

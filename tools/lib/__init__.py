@@ -2,8 +2,8 @@
 
 All files are UTF-8. .ci/run and quick set PYTHONUTF8; without it Python reads files so in the locale C, and in each one of UTF-8.
 
-- All scripts: failed (what they end with if they can't go on). And counts.sh, of .ci/run and quick (what the scripts must count), and
-  state.sh, of .ci/run (which files are tried).
+- All scripts: failed (what they end with if they can't go on). And words, of those that write or print what they compare (what they are
+  called with), counts.sh, of .ci/run and quick (what the scripts must count), and state.sh, of .ci/run (which files are tried).
 - The repository and what is built of it: libraries (folders, crates, texts, runs of rattle), clone (the commit), cases (`rt try --cases`),
   generated (runs of `tlsgen`), edits and verdicts (wrong bodies).
 - The library: type_tests (which tests each type has).
