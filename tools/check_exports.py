@@ -24,7 +24,7 @@ from lib.caller_inputs import PAGE, PLACES, SIGNED, answered, listed_archives, l
 from lib.exports_c import INCLUDE, MARK, header, mark, minor, outcome_header, table, umbrella, version
 from lib.exports_python import exports_python
 from lib.exports_rust import exports_rust, linked, tests_rust
-from lib.failed import Failed
+from lib.failed import Failed, ended
 from lib.libraries import TOP
 from lib.registries import ENUMS
 from lib.words import is_to_write
@@ -184,4 +184,4 @@ def main() -> int:
 
 
 if __name__ == "__main__":
-    sys.exit(main())
+    sys.exit(ended(main))

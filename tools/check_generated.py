@@ -9,13 +9,13 @@ from __future__ import annotations
 import pathlib
 import re
 import shutil
-import subprocess
 import sys
 import tempfile
 
 from lib import cases
+from lib.failed import ended
 from lib.generated import RUNS, add, stored_files
-from lib.libraries import CRATES, DATA
+from lib.libraries import CRATES, DATA, run
 from lib.words import is_to_write
 
 STORED = "hello"
@@ -66,6 +66,7 @@ def write() -> int:
     if tried.names(0, as_expected=False) != set(RUNS):
         print(f"nothing was written:\n{tried.said}")
         return 1
+    failed = []
     for part in re.split(r"^== (?=\w+$)", tried.printed, flags=re.M)[1:]:
         name, _, files = part.partition("\n")
         for file in re.split(r"^=== (?=\S+$)", files, flags=re.M)[1:]:
@@ -73,8 +74,11 @@ def write() -> int:
             target = CRATES / name / path
             target.parent.mkdir(parents=True, exist_ok=True)
             target.write_text(content.rstrip("\n") + "\n" if content.strip() else "")
-        subprocess.run(["rt", "fmt"], cwd=CRATES / name, check=True)
-    return 0
+        status, said = run(["rt", "fmt"], CRATES / name)
+        if status:
+            failed.append(f"crates/{name} is written, but rt fmt ended with status {status}:\n{said}")
+    print("".join(failed), end="")
+    return int(bool(failed))
 
 
 def compare() -> int:
@@ -101,4 +105,4 @@ def compare() -> int:
 
 
 if __name__ == "__main__":
-    sys.exit(write() if is_to_write() else compare())
+    sys.exit(ended(write if is_to_write() else compare))

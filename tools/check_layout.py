@@ -25,6 +25,7 @@ import re
 import sys
 from collections.abc import Iterator
 
+from lib.failed import ended
 from lib.libraries import TOP, Libraries, files_of_clone
 
 FOLDERS = ("tools", ".ci", "c", "python", "rust")
@@ -204,4 +205,4 @@ def main() -> int:
 
 
 if __name__ == "__main__":
-    sys.exit(main())
+    sys.exit(ended(main))

@@ -10,6 +10,7 @@ from __future__ import annotations
 import sys
 
 from lib.dump_input import bytes_of, named, words_of
+from lib.failed import ended
 from lib.libraries import CRATES, TOP
 from lib.message_reader import PROTOCOLS, Text
 from lib.outcome_reader import TEXT_OF_LIBRARY, Outcome, Span, elements, first_rejected, located
@@ -114,17 +115,17 @@ def check() -> tuple[int, list[str]]:
     return passed + len(REJECTIONS) - len(found), failures + found
 
 
-def main() -> None:
+def main() -> int:
     if rows := rows_wanted(row_of, "a message, or a call of test_places"):
         print("\n".join(rows))
-        return
+        return 0
     passed, failures = check()
     for it in failures:
         print(it)
     print(f"{passed} rows of messages and rejections of tlsdump are what an independent reader says")
     print(f"{passed} passed, {len(failures)} failed")
-    sys.exit(bool(failures))
+    return int(bool(failures))
 
 
 if __name__ == "__main__":
-    main()
+    sys.exit(ended(main))

@@ -34,6 +34,7 @@ import dialect
 import page_limits
 import pictures
 from lib.blocks import NOT_QUOTED, blocks, prose
+from lib.failed import ended
 from lib.libraries import CALLER_PAGES, PAGES, TOP, files_of_clone
 
 # A fault: the line where it is, and what it is.
@@ -369,4 +370,4 @@ def main() -> int:
 
 
 if __name__ == "__main__":
-    sys.exit(main())
+    sys.exit(ended(main))

@@ -8,6 +8,7 @@ from __future__ import annotations
 
 import sys
 
+from lib.failed import ended
 from lib.libraries import CRATES
 from lib.row_reader import KINDS, answer
 from lib.words import rows_wanted
@@ -70,17 +71,17 @@ def check() -> tuple[int, list[str]]:
     return passed, failures
 
 
-def main() -> None:
+def main() -> int:
     if rows := rows_wanted(row_of, f"one of {' '.join(KINDS)}"):
         print("\n".join(rows))
-        return
+        return 0
     passed, failures = check()
     for it in failures:
         print(it)
     print(f"{passed} rows of test_rows are what an independent reader says")
     print(f"{passed} passed, {len(failures)} failed")
-    sys.exit(bool(failures))
+    return int(bool(failures))
 
 
 if __name__ == "__main__":
-    main()
+    sys.exit(ended(main))

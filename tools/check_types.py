@@ -26,6 +26,7 @@ from collections.abc import Iterable, Iterator
 from typing import NamedTuple
 
 from lib import type_tests
+from lib.failed import ended
 from lib.libraries import CRATES, TOP
 
 TABLE = CRATES / "tls_codec/src"
@@ -427,4 +428,4 @@ def main() -> int:
 
 
 if __name__ == "__main__":
-    sys.exit(main())
+    sys.exit(ended(main))
