@@ -177,31 +177,30 @@ def selftest() -> list[str]:
     return missed + [f"selftest: found: {name}: {it}" for name, text in sound.items() for it in faults(pathlib.PurePath(name), text)]
 
 
-def main() -> int:
-    missed = [*selftest(), *missed_paths(), *missed_crates(), *missed_modules()]
-    print("".join(f"{it}\n" for it in missed), end="")
+def checks() -> dict[str, list[str]]:
+    """The faults of each file, of each list and of the tried faults, as lines."""
     all_files = files_of_clone()
-    files = [path for path in all_files if path.parts[0] in FOLDERS and OUTPUTS not in path.parents]
-    failed = {"selftest"} if missed else set()
-    for path in all_files:
-        if path.parts[0] == "crates" and is_foreign(path):
-            print(f"{path}: no crate has such a file there")
-            failed.add("crates")
-    folders = {path.parts[1] for path in all_files if path.parts[0] == "crates" and len(path.parts) > 2}
-    for fault in faults_of_crates(folders, set(Libraries().uses), (TOP / "docs/MAP.md").read_text(encoding="utf-8")):
-        print(fault)
-        failed.add("lists of crates")
     inside = [path.relative_to("tools/lib").parts[0] for path in all_files if path.is_relative_to("tools/lib")]
     modules = {name.removesuffix(".py") for name in inside} - {"__init__"}
-    for fault in faults_of_modules(modules, (TOP / "tools/lib/__init__.py").read_text(encoding="utf-8")):
-        print(fault)
-        failed.add("lists of modules")
-    for path in files:
-        for number, fault in faults(path, (TOP / path).read_text(encoding="utf-8", errors="replace")):
-            print(f"{path}:{number}: {fault}")
-            failed.add(path.as_posix())
-    print(f"{len(files) + 4 - len(failed)} passed, {len(failed)} failed")
-    return 1 if failed or not files else 0
+    of_crates = [path for path in all_files if path.parts[0] == "crates"]
+    folders = {path.parts[1] for path in of_crates if len(path.parts) > 2}
+    files = [path for path in all_files if path.parts[0] in FOLDERS and OUTPUTS not in path.parents]
+    texts = {path: (TOP / path).read_text(encoding="utf-8", errors="replace") for path in files}
+    return {
+        "selftest": [*selftest(), *missed_paths(), *missed_crates(), *missed_modules()],
+        "paths": [f"{path}: no crate has such a file there" for path in of_crates if is_foreign(path)],
+        "crates": faults_of_crates(folders, set(Libraries().uses), (TOP / "docs/MAP.md").read_text(encoding="utf-8")),
+        "modules": faults_of_modules(modules, (TOP / "tools/lib/__init__.py").read_text(encoding="utf-8")),
+        **{str(path): [f"{path}:{number}: {fault}" for number, fault in faults(path, text)] for path, text in texts.items()},
+    }
+
+
+def main() -> int:
+    found = checks()
+    print("".join(f"{line}\n" for lines in found.values() for line in lines), end="")
+    failed = sum(map(bool, found.values()))
+    print(f"{len(found) - failed} passed, {failed} failed")
+    return 1 if failed or len(found) < 5 else 0
 
 
 if __name__ == "__main__":
