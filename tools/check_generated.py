@@ -2,7 +2,8 @@
 """Compares each crate that tlsgen wrote with what the program writes today, except for layout, and its stored output byte for byte.
 
 The program is built once, without proof (`rt try`), and run once a crate. Three more runs compare files that have one fault each, and must
-end with status 1 and its line. The last line counts the runs that end as they must. With --write it writes the crates instead.
+end with status 1 and its line. The last line counts the runs that end as they must. With --write it writes the crates instead, and
+removes files that aren't written.
 """
 from __future__ import annotations
 
@@ -57,8 +58,15 @@ def add_faults(folder: str, room: str) -> dict[str, pathlib.Path]:
     return data
 
 
+def printed_files(printed: str) -> dict[str, dict[str, str]]:
+    """The files that each run of tlsgen prints, by their paths."""
+    runs = [part.partition("\n") for part in re.split(r"^== (?=\w+$)", printed, flags=re.M)[1:]]
+    parts = {name: re.split(r"^=== (?=\S+$)", files, flags=re.M)[1:] for name, _, files in runs}
+    return {name: {path: content for path, _, content in (it.partition("\n") for it in files)} for name, files in parts.items()}
+
+
 def write() -> int:
-    """Writes each crate anew, and lays it out, if all runs ended as they must. Returns the exit status."""
+    """Writes each crate anew, and lays it out, if all runs ended as they must. Files that aren't written go. Returns the exit status."""
     with tempfile.TemporaryDirectory() as folder:
         for name, (_, text, more) in RUNS.items():
             add(folder, name, text, more)
@@ -67,10 +75,10 @@ def write() -> int:
         print(f"nothing was written:\n{tried.said}")
         return 1
     failed = []
-    for part in re.split(r"^== (?=\w+$)", tried.printed, flags=re.M)[1:]:
-        name, _, files = part.partition("\n")
-        for file in re.split(r"^=== (?=\S+$)", files, flags=re.M)[1:]:
-            path, _, content = file.partition("\n")
+    for name, files in printed_files(tried.printed).items():
+        for path in set(files_of(name)) - files.keys():
+            (CRATES / name / path).unlink()
+        for path, content in files.items():
             target = CRATES / name / path
             target.parent.mkdir(parents=True, exist_ok=True)
             target.write_text(content.rstrip("\n") + "\n" if content.strip() else "")
