@@ -102,7 +102,7 @@ class Validators:
         except AttributeError:
             raise LookupError(f"this shared object has no {name!r}") from None
 
-    def outcome(self, name: str, data: Buffer, *filled: object) -> Outcome:
+    def _outcome(self, name: str, data: Buffer, *filled: object) -> Outcome:
         """For tests: what a function of the headers says of the bytes. Pass just what it fills: fewer or smaller is undefined behaviour."""
         return self._outcome_of(self._named(name), data, *filled)
 

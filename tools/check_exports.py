@@ -24,9 +24,10 @@ from lib.caller_inputs import PAGE, PLACES, SIGNED, answered, listed_archives, l
 from lib.exports_c import INCLUDE, MARK, header, mark, minor, outcome_header, table, umbrella, version
 from lib.exports_python import exports_python
 from lib.exports_rust import exports_rust, linked, tests_rust
-from lib.failed import Failed
+from lib.failed import Failed, ended
 from lib.libraries import TOP
 from lib.registries import ENUMS
+from lib.words import is_to_write
 
 # The folders that have a file MARK.
 MARKS = ["c", "rust"]
@@ -105,10 +106,10 @@ def compare(found: str, wanted: str) -> None:
         raise Failed("tools/check_exports.py --write writes another text")
 
 
-def compare_file(path: pathlib.Path, make: Callable[[], str]) -> None:
+def compare_file(path: pathlib.Path, make: Callable[[], str], write: bool) -> None:
     """Writes a file first, if the script is to."""
     text = make()
-    if "--write" in sys.argv[1:]:
+    if write:
         path.parent.mkdir(parents=True, exist_ok=True)
         path.write_text(text, encoding="utf-8")
     compare(path.read_text(encoding="utf-8") if path.is_file() else "", text)
@@ -167,7 +168,8 @@ def find_planted() -> None:
 
 
 def main() -> int:
-    checks = {path.relative_to(TOP).as_posix(): lambda path=path, make=make: compare_file(path, make) for path, make in files().items()}
+    compared, write = files(), is_to_write()
+    checks = {it.relative_to(TOP).as_posix(): lambda it=it: compare_file(it, compared[it], write) for it in compared}
     checks |= {PAGE.relative_to(TOP).as_posix(): compare_page, "rows": compare_rows, "planted faults": find_planted}
     failed = 0
     for name, check in checks.items():
@@ -182,4 +184,4 @@ def main() -> int:
 
 
 if __name__ == "__main__":
-    sys.exit(main())
+    sys.exit(ended(main))

@@ -2,20 +2,22 @@
 """Compares each crate that tlsgen wrote with what the program writes today, except for layout, and its stored output byte for byte.
 
 The program is built once, without proof (`rt try`), and run once a crate. Three more runs compare files that have one fault each, and must
-end with status 1 and its line. The last line counts the runs that end as they must. With --write it writes the crates instead.
+end with status 1 and its line. The last line counts the runs that end as they must. With --write it writes the crates instead, and
+removes files that aren't written.
 """
 from __future__ import annotations
 
 import pathlib
 import re
 import shutil
-import subprocess
 import sys
 import tempfile
 
 from lib import cases
+from lib.failed import ended
 from lib.generated import RUNS, add, stored_files
-from lib.libraries import CRATES, DATA
+from lib.libraries import CRATES, DATA, run
+from lib.words import is_to_write
 
 STORED = "hello"
 
@@ -56,8 +58,15 @@ def add_faults(folder: str, room: str) -> dict[str, pathlib.Path]:
     return data
 
 
+def printed_files(printed: str) -> dict[str, dict[str, str]]:
+    """The files that each run of tlsgen prints, by their paths."""
+    runs = [part.partition("\n") for part in re.split(r"^== (?=\w+$)", printed, flags=re.M)[1:]]
+    parts = {name: re.split(r"^=== (?=\S+$)", files, flags=re.M)[1:] for name, _, files in runs}
+    return {name: {path: content for path, _, content in (it.partition("\n") for it in files)} for name, files in parts.items()}
+
+
 def write() -> int:
-    """Writes each crate anew, and lays it out, if all runs ended as they must. Returns the exit status."""
+    """Writes each crate anew, and lays it out, if all runs ended as they must. Files that aren't written go. Returns the exit status."""
     with tempfile.TemporaryDirectory() as folder:
         for name, (_, text, more) in RUNS.items():
             add(folder, name, text, more)
@@ -65,15 +74,19 @@ def write() -> int:
     if tried.names(0, as_expected=False) != set(RUNS):
         print(f"nothing was written:\n{tried.said}")
         return 1
-    for part in re.split(r"^== (?=\w+$)", tried.printed, flags=re.M)[1:]:
-        name, _, files = part.partition("\n")
-        for file in re.split(r"^=== (?=\S+$)", files, flags=re.M)[1:]:
-            path, _, content = file.partition("\n")
+    failed = []
+    for name, files in printed_files(tried.printed).items():
+        for path in set(files_of(name)) - files.keys():
+            (CRATES / name / path).unlink()
+        for path, content in files.items():
             target = CRATES / name / path
             target.parent.mkdir(parents=True, exist_ok=True)
             target.write_text(content.rstrip("\n") + "\n" if content.strip() else "")
-        subprocess.run(["rt", "fmt"], cwd=CRATES / name, check=True)
-    return 0
+        status, said = run(["rt", "fmt"], CRATES / name)
+        if status:
+            failed.append(f"crates/{name} is written, but rt fmt ended with status {status}:\n{said}")
+    print("".join(failed), end="")
+    return int(bool(failed))
 
 
 def compare() -> int:
@@ -100,4 +113,4 @@ def compare() -> int:
 
 
 if __name__ == "__main__":
-    sys.exit(write() if sys.argv[1:] == ["--write"] else compare())
+    sys.exit(ended(write if is_to_write() else compare))

@@ -1,10 +1,13 @@
 #!/usr/bin/env python3
-"""Checks the layout of what isn't Rattle: all files in tools/, .ci/, c/, python/ and rust/. And crates/ has no foreign files, and the
-crates that are listed.
+"""Checks the layout of what isn't Rattle: all files in tools/, .ci/, c/, python/ and rust/. And crates/ has no foreign files, the crates
+that are listed, and no long files.
 
 A line has at most 140 columns, no tab, and no blank at its end. A file ends with one line feed. Python has at most two empty lines in a
 row, and the backslashes of a macro of C are in one column. Rows (*.tsv) may have tabs and long lines, and a file whose first line says that
 a script of tools/ wrote it, long lines. tools/data/outputs/ has lines of rattle, and isn't read.
+
+A file of code or of proofs that is written by hand has fewer than 400 lines, in crates/ too: scripts of tools/ write those whose first line
+says so, and the crates that have laws, with their laws.
 
 A file below crates/ has a suffix that its folder has (SUFFIXES), or is an input or output of its crate (OF_PROGRAMS).
 
@@ -15,7 +18,7 @@ The first lines of tools/lib/__init__.py name each module and folder there, outs
 other name that has an underscore and no suffix.
 
 Before that it tries each of these on a text, a path or a list with one fault. Prints a line for each fault; last 'N passed, N failed': a
-file each, and one each for the paths below crates/, for the crates, for the modules and for what was tried.
+file each, and one each for the paths below crates/, for the crates, for the modules, for the lengths and for what was tried.
 """
 from __future__ import annotations
 
@@ -25,13 +28,16 @@ import re
 import sys
 from collections.abc import Iterator
 
-from lib.libraries import TOP, Libraries, files_of_clone
+from lib.failed import ended
+from lib.libraries import TEXT_OF_CRATE, TOP, Libraries, files_of_clone
 
 FOLDERS = ("tools", ".ci", "c", "python", "rust")
 OUTPUTS = pathlib.Path("tools/data/outputs")
 COLUMNS = 140
-WRITTEN = re.compile(r"Written by tools/\w+\.py\b")
+LINES = 400
+WRITTEN = re.compile(r"Written by tools/\w+\.py\b|, as tools/\w+\.py copies them\.$")
 C = (".c", ".cc", ".h", ".inc")
+CODE = (".rt", ".antt", ".py", ".rs", ".sh", *C)
 # The suffixes of files in a crate's folders, where an input of a program has none, and what is right in a crate.
 SUFFIXES = {
     "src": (".rt",),
@@ -75,6 +81,19 @@ def faults(path: pathlib.PurePath, text: str) -> Iterator[tuple[int, str]]:
         yield from ((at, "a third empty line") for at in range(3, len(lines)) if not any(lines[at - 3 : at]))
     if path.suffix in C:
         yield from ((number, "a backslash in another column") for number in macros(lines))
+
+
+def is_by_hand(path: pathlib.PurePath) -> bool:
+    """Whether a file is code or proofs, or a script without a suffix, and in no crate that scripts write."""
+    _, *inside = path.parts
+    if path.parts[0] == "crates":
+        return path.suffix in CODE and inside[0].removesuffix("_laws") not in TEXT_OF_CRATE
+    return path.parts[0] in FOLDERS and path.suffix in ("", *CODE)
+
+
+def is_too_long(text: str) -> bool:
+    """Whether a file that is_by_hand has too many lines, and no script wrote it."""
+    return text.count("\n") >= LINES and not WRITTEN.search(text.partition("\n")[0])
 
 
 def is_foreign(path: pathlib.PurePath) -> bool:
@@ -150,6 +169,20 @@ def missed_paths() -> list[str]:
     return missed + [f"selftest: found: crates/{it}" for it in sound if is_foreign(pathlib.PurePath("crates", it))]
 
 
+def missed_lengths() -> list[str]:
+    """The planted long files that aren't found, and the others that are."""
+    line, written = "i = 1\n", "//! Written by tools/check_exports.py from crates/mls_c/src. Don't edit.\n"
+    copied = "//! `ct.tls` and `ct.notes`, as tools/check_texts.py copies them.\n"
+    planted = [line * LINES, f"//! As tools/check_texts.py.\n{line * LINES}", line + written + line * LINES]
+    sound = [line * (LINES - 1), written + line * LINES, copied + line * LINES]
+    missed = [f"selftest: not found: a long file: {text[:30]!r}" for text in planted if not is_too_long(text)]
+    missed += [f"selftest: found: no long file: {text[:30]!r}" for text in sound if is_too_long(text)]
+    by_hand = ("crates/tls_codec_wire/src/vlen.rt", "crates/mls_c/specs/Lib.antt", "tools/quick", "tools/lib/counts.sh", "rust/build.rs")
+    others = ("crates/tls13/src/alert.rt", "crates/tls13_laws/proofs/Sayings.antt", "crates/tlsdump/runs/list.stdout", "c/tests/tls13.tsv")
+    missed += [f"selftest: not found: {it}" for it in by_hand if not is_by_hand(pathlib.PurePath(it))]
+    return missed + [f"selftest: found: {it}" for it in others if is_by_hand(pathlib.PurePath(it))]
+
+
 def selftest() -> list[str]:
     """The planted faults that aren't found, and what is found in texts that have none."""
     long = "x" * (COLUMNS + 1)
@@ -176,32 +209,32 @@ def selftest() -> list[str]:
     return missed + [f"selftest: found: {name}: {it}" for name, text in sound.items() for it in faults(pathlib.PurePath(name), text)]
 
 
-def main() -> int:
-    missed = [*selftest(), *missed_paths(), *missed_crates(), *missed_modules()]
-    print("".join(f"{it}\n" for it in missed), end="")
+def checks() -> dict[str, list[str]]:
+    """The faults of each file, of each list and of the tried faults, as lines."""
     all_files = files_of_clone()
-    files = [path for path in all_files if path.parts[0] in FOLDERS and OUTPUTS not in path.parents]
-    failed = {"selftest"} if missed else set()
-    for path in all_files:
-        if path.parts[0] == "crates" and is_foreign(path):
-            print(f"{path}: no crate has such a file there")
-            failed.add("crates")
-    folders = {path.parts[1] for path in all_files if path.parts[0] == "crates" and len(path.parts) > 2}
-    for fault in faults_of_crates(folders, set(Libraries().uses), (TOP / "docs/MAP.md").read_text(encoding="utf-8")):
-        print(fault)
-        failed.add("lists of crates")
     inside = [path.relative_to("tools/lib").parts[0] for path in all_files if path.is_relative_to("tools/lib")]
     modules = {name.removesuffix(".py") for name in inside} - {"__init__"}
-    for fault in faults_of_modules(modules, (TOP / "tools/lib/__init__.py").read_text(encoding="utf-8")):
-        print(fault)
-        failed.add("lists of modules")
-    for path in files:
-        for number, fault in faults(path, (TOP / path).read_text(encoding="utf-8", errors="replace")):
-            print(f"{path}:{number}: {fault}")
-            failed.add(path.as_posix())
-    print(f"{len(files) + 4 - len(failed)} passed, {len(failed)} failed")
-    return 1 if failed or not files else 0
+    of_crates = [path for path in all_files if path.parts[0] == "crates"]
+    folders = {path.parts[1] for path in of_crates if len(path.parts) > 2}
+    files = [path for path in all_files if path.parts[0] in FOLDERS and OUTPUTS not in path.parents]
+    texts = {path: (TOP / path).read_text(encoding="utf-8", errors="replace") for path in {*files, *filter(is_by_hand, all_files)}}
+    return {
+        "selftest": [*selftest(), *missed_lengths(), *missed_paths(), *missed_crates(), *missed_modules()],
+        "lengths": [f"{path}: {LINES} lines or more" for path in sorted(filter(is_by_hand, texts)) if is_too_long(texts[path])],
+        "paths": [f"{path}: no crate has such a file there" for path in of_crates if is_foreign(path)],
+        "crates": faults_of_crates(folders, set(Libraries().uses), (TOP / "docs/MAP.md").read_text(encoding="utf-8")),
+        "modules": faults_of_modules(modules, (TOP / "tools/lib/__init__.py").read_text(encoding="utf-8")),
+        **{str(path): [f"{path}:{number}: {fault}" for number, fault in faults(path, texts[path])] for path in files},
+    }
+
+
+def main() -> int:
+    found = checks()
+    print("".join(f"{line}\n" for lines in found.values() for line in lines), end="")
+    failed = sum(map(bool, found.values()))
+    print(f"{len(found) - failed} passed, {failed} failed")
+    return 1 if failed or len(found) < 6 else 0
 
 
 if __name__ == "__main__":
-    sys.exit(main())
+    sys.exit(ended(main))

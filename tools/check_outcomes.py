@@ -2,7 +2,7 @@
 """Compares the stored rows of messages with what lib/outcome_reader.py, an independent reader, says of their inputs.
 
 They are those of crates/test_outcome, crates/test_places and c/tests/tls13.tsv. It also compares the byte and the error of each rejection
-of tlsdump in lib/rejections.py. `check_outcomes.py --write NAME HEX ..` prints rows for inputs of your own: NAME is a message, or a call of
+of tlsdump in lib/rejections.py. `check_outcomes.py --row KIND HEX ..` prints rows for inputs of your own: KIND is a message, or a call of
 test_places. Append them to stdout there, and their first two columns to stdin.
 """
 from __future__ import annotations
@@ -10,10 +10,12 @@ from __future__ import annotations
 import sys
 
 from lib.dump_input import bytes_of, named, words_of
+from lib.failed import ended
 from lib.libraries import CRATES, TOP
 from lib.message_reader import PROTOCOLS, Text
 from lib.outcome_reader import TEXT_OF_LIBRARY, Outcome, Span, elements, first_rejected, located
 from lib.rejections import REJECTIONS
+from lib.words import rows_wanted
 
 RUNS = CRATES / "tlsdump" / "runs"
 TABLES = [CRATES / "test_outcome" / "stdout", CRATES / "test_places" / "stdout", TOP / "c" / "tests" / "tls13.tsv"]
@@ -113,22 +115,17 @@ def check() -> tuple[int, list[str]]:
     return passed + len(REJECTIONS) - len(found), failures + found
 
 
-def main() -> None:
-    if sys.argv[1:2] == ["--write"]:
-        if len(sys.argv) < 4:
-            sys.exit("check_outcomes.py --write NAME HEX ..")
-        try:
-            print("\n".join(row_of(sys.argv[2], digits) for digits in sys.argv[3:]))
-        except (LookupError, ValueError) as error:
-            sys.exit(f"check_outcomes.py: {error}")
-        return
+def main() -> int:
+    if rows := rows_wanted(row_of, "a message, or a call of test_places"):
+        print("\n".join(rows))
+        return 0
     passed, failures = check()
     for it in failures:
         print(it)
     print(f"{passed} rows of messages and rejections of tlsdump are what an independent reader says")
     print(f"{passed} passed, {len(failures)} failed")
-    sys.exit(bool(failures))
+    return int(bool(failures))
 
 
 if __name__ == "__main__":
-    main()
+    sys.exit(ended(main))

@@ -34,6 +34,7 @@ import dialect
 import page_limits
 import pictures
 from lib.blocks import NOT_QUOTED, blocks, prose
+from lib.failed import ended
 from lib.libraries import CALLER_PAGES, PAGES, TOP, files_of_clone
 
 # A fault: the line where it is, and what it is.
@@ -319,17 +320,13 @@ def selftest() -> list[str]:
     return missed + [f"selftest: found: {it}" for it in sound]
 
 
-def main() -> int:
+def of_pages(pages: list[pathlib.Path]) -> Iterator[tuple[str, list[str]]]:
+    """The faults of each of these pages, as lines, by its path."""
     files = sources("crates", "c", "python", "rust")
-    words, failed = words_of(files), set()
-    names = {path.name for path in files_of_clone()}
+    words, names = words_of(files), {path.name for path in files_of_clone()}
     library = "\n".join("\n".join(text) for path, text in files.items() if re.match(r"crates/tls_codec\w*/src/", path))
-    for text in selftest():
-        print(text)
-        failed.add("selftest")
-    pages = [*PAGES, *CALLER_PAGES]
     for page in pages:
-        lines = page.read_text().split("\n")
+        lines, path = page.read_text().split("\n"), page.relative_to(TOP).as_posix()
         found = [*check_quotes(lines, files), *check_links(page, lines), *check_merged(lines)]
         if page.name != "CHANGELOG.md":
             found += [*check_names(lines, words, names), *check_blocks(lines)]
@@ -338,35 +335,42 @@ def main() -> int:
         if page.name == "API.md":
             found += check_declared(lines, library)
         found += ((number, f"{word!r}: {better}") for number, word, better in dialect.findings(page))
-        for number, text in sorted(found):
-            print(f"{page.relative_to(TOP)}:{number}: {text}")
-            failed.add(page)
-    commented = dialect.files(dialect.SOURCES)
-    for source in commented:
-        for number, word, better in dialect.findings(source):
-            print(f"{source.relative_to(TOP)}:{number}: {word!r}: {better}")
-            failed.add("comments")
+        yield path, [f"{path}:{number}: {text}" for number, text in sorted(found)]
+
+
+def of_sources(paths: list[pathlib.Path]) -> list[str]:
+    """The words of the dialect in the comments of these sources, as lines."""
+    found = [(path.relative_to(TOP), *it) for path in paths for it in dialect.findings(path)]
+    return [f"{path}:{number}: {word!r}: {better}" for path, number, word, better in found]
+
+
+def of_picture(name: str) -> list[str]:
+    """How a picture differs from what is drawn today, and that of all crates from what they use."""
+    drawn = pictures.PICTURES[name](False)
+    found = [] if (TOP / "docs" / name).read_text() == drawn.svg() else ["not as tools/pictures.py draws it"]
+    if name == "crates.svg":
+        found += pictures.wrong_arrows(drawn.lines, drawn.boxes, pictures.used())
+    return [f"docs/{name}: {text}" for text in found]
+
+
+def main() -> int:
+    pages, commented = [*PAGES, *CALLER_PAGES], dialect.files(dialect.SOURCES)
     modules = {path.relative_to(TOP).as_posix(): path.read_text() for path in (TOP / "tools" / "lib").rglob("*.py")}
-    for name, script in scripts_imported(modules):
-        print(f"{name}: imports the script {script}")
-        failed.add("imports")
-    for text in page_limits.findings()[0]:
-        print(text)
-        failed.add("page_limits")
-    for name, draw in pictures.PICTURES.items():
-        if (TOP / "docs" / name).read_text() != draw(False).svg():
-            print(f"docs/{name}: not as tools/pictures.py draws it")
-            failed.add(name)
-    drawn = pictures.crates(False)
-    for text in pictures.wrong_arrows(drawn.lines, drawn.boxes, pictures.used()):
-        print(f"docs/crates.svg: {text}")
-        failed.add("crates.svg")
-    read = len(pages) + len(pictures.PICTURES) + 4
+    found = {
+        "selftest": selftest(),
+        **dict(of_pages(pages)),
+        "comments": of_sources(commented),
+        "imports": [f"{name}: imports the script {script}" for name, script in scripts_imported(modules)],
+        "page_limits": page_limits.findings()[0],
+        **{name: of_picture(name) for name in pictures.PICTURES},
+    }
+    print("".join(f"{line}\n" for lines in found.values() for line in lines), end="")
+    failed = sum(map(bool, found.values()))
     compared = f"{len(pages)} pages and {len(pictures.PICTURES)} pictures were compared with the crates"
     print(f"{compared}, and the words of {len(commented)} sources read")
-    print(f"{read - len(failed)} passed, {len(failed)} failed")
+    print(f"{len(found) - failed} passed, {failed} failed")
     return 1 if failed else 0
 
 
 if __name__ == "__main__":
-    sys.exit(main())
+    sys.exit(ended(main))

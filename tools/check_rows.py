@@ -1,15 +1,17 @@
 #!/usr/bin/env python3
 """Compares the stored rows of crates/test_rows with what lib/row_reader.py, an independent reader, says of their inputs.
 
-`check_rows.py --write KIND HEX ..` prints rows for inputs of your own as stdout has them. Append them to crates/test_rows/stdout, and their
+`check_rows.py --row KIND HEX ..` prints rows for inputs of your own as stdout has them. Append them to crates/test_rows/stdout, and their
 first two columns to crates/test_rows/stdin.
 """
 from __future__ import annotations
 
 import sys
 
+from lib.failed import ended
 from lib.libraries import CRATES
 from lib.row_reader import KINDS, answer
+from lib.words import rows_wanted
 
 FOLDER = CRATES / "test_rows"
 # What is changed of a row, to see that a wrong one is found: a text there, and what is put in its place.
@@ -69,19 +71,17 @@ def check() -> tuple[int, list[str]]:
     return passed, failures
 
 
-def main() -> None:
-    if sys.argv[1:2] == ["--write"]:
-        if len(sys.argv) < 4 or sys.argv[2] not in KINDS:
-            sys.exit(f"check_rows.py --write KIND HEX .., KIND is one of {' '.join(KINDS)}")
-        print("\n".join(row_of(sys.argv[2], digits) for digits in sys.argv[3:]))
-        return
+def main() -> int:
+    if rows := rows_wanted(row_of, f"one of {' '.join(KINDS)}"):
+        print("\n".join(rows))
+        return 0
     passed, failures = check()
     for it in failures:
         print(it)
     print(f"{passed} rows of test_rows are what an independent reader says")
     print(f"{passed} passed, {len(failures)} failed")
-    sys.exit(bool(failures))
+    return int(bool(failures))
 
 
 if __name__ == "__main__":
-    main()
+    sys.exit(ended(main))

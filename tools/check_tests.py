@@ -18,6 +18,7 @@ import sys
 import tempfile
 from collections.abc import Iterator
 
+from lib.failed import ended
 from lib.libraries import CRATES, TOP
 
 LINES = TOP / "tools/data/tests.txt"
@@ -200,4 +201,4 @@ def main() -> int:
 
 
 if __name__ == "__main__":
-    sys.exit(main())
+    sys.exit(ended(main))

@@ -19,6 +19,7 @@ import compare_rfc
 from lib.failed import Failed, ended
 from lib.libraries import CRATES, DATA, TEXTS_OF_RFCS
 from lib.presentation import Parser
+from lib.words import is_to_write
 
 # The texts with definitions of each RFC, and the RFCs that are made with page breaks.
 RFCS = {"8446": ["tls13"], "6962": ["ct"], "5246": ["ct"], "9420": ["mls_tree", "mls_group", "mls"]}
@@ -104,10 +105,10 @@ def unbroken(text: str) -> str:
     return text.replace('=\n    "', '= "')
 
 
-def is_copied(name: str) -> bool:
-    """Whether `tlsdump` has this text."""
+def is_copied(name: str, write: bool) -> bool:
+    """Whether `tlsdump` has this text. It is written first, if the script is to."""
     path = CRATES / "tlsdump" / "src" / "texts" / f"of_{name}.rt"
-    if "--write" in sys.argv:
+    if write:
         path.write_text(module(name))
     same = path.is_file() and unbroken(path.read_text()) == module(name)
     if not same:
@@ -172,7 +173,8 @@ def is_compared(change: Change | None) -> bool:
 
 
 def main() -> int:
-    copied = sum(map(is_copied, TEXTS_OF_RFCS))
+    write = is_to_write()
+    copied = sum(is_copied(name, write) for name in TEXTS_OF_RFCS)
     print(f"{copied} of {len(TEXTS_OF_RFCS)} texts of tlsdump are those of crates/tlsgen/data")
     compared = sum(map(is_compared, [None, *CHANGES]))
     print(f"{compared} of {len(CHANGES) + 1} comparisons with made RFCs print what they must")

@@ -19,6 +19,7 @@ from lib.message_reader import PROTOCOLS, Line, Reader, Rejected, Text
 from lib.presentation import Parser, name_of
 from lib.rejections import REJECTIONS, UNREAD
 from lib.shown import counted
+from lib.words import is_to_write
 
 FOLDER = CRATES / "tlsdump"
 # outputs that are no tree
@@ -192,11 +193,11 @@ def selftest() -> list[str]:
 
 
 def main() -> int:
-    failed = []
+    failed, write = [], is_to_write()
     runs = [it for it in [FOLDER / "stdin", *sorted((FOLDER / "runs").iterdir())] if not it.suffix and it.name not in BY_HAND]
     for run in runs:
         tree, stored = expected(run), output_of(run)
-        if "--write" in sys.argv:
+        if write:
             stored.write_text(tree, encoding="utf-8")
         if not stored.is_file() or stored.read_text(encoding="utf-8") != tree:
             failed.append(f"{run.name}: another tree\n{tree}")

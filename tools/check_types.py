@@ -2,12 +2,12 @@
 """Compares the public types of tls_codec with its table of types.
 
 Each `impl Size` of `tls_codec_base` and the families' crates, for a type of std as for one of theirs, has a line of `Means` in `types.rt`
-of `tls_codec`. Each decoder has a line of names (MEANT), and each type with a decoder and `PartialEq` a line in `equality.rt`. A family
-such as `TlsVecU8` is under the generic type that it names; an exported name that isn't of a width, as `VLBytes`, has lines of its own.
+of `tls_codec`. Each decoder has a line of names, and each type with a decoder and `PartialEq` a line in `equality.rt`. A family such as
+`TlsVecU8` is under the generic type that it names; an exported name that isn't of a width, as `VLBytes`, has lines of its own.
 Types that a context decides are in `contexts.rt`, and are held to the traits in a context too: such a type has no format but one for each
 context, so its line is one of `SameFormat` and not of `Means`. Each that has a decoder from a slice, and each of `tls_codec_cases`, is
 validated by an impl in `tls_codec_validate`, without a context or in one. Each impl there has a line in its `types.rt`, which says where
-bytes are rejected, or of `Keyed` what its key is (PINS). No line says of a type what it is by that type's own impl, and none has a premise.
+bytes are rejected, or of `Keyed` what its key is. No line says of a type what it is by that type's own impl, and none has a premise.
 Each has a row in docs/API.md, with its crate and its traits, and so have the types of std that `tls_codec_base` gives them to;
 each name there is such a type's. What it stands for and its format there are in words of its lines of `Means`, or in short ones
 (SHORT_FOR). Each variant of `Error` is among the words for contracts, and each line that exports names can be read. No type that generated
@@ -18,68 +18,27 @@ a type that lacks something. Prints what is missing; the last line is 'N passed,
 """
 from __future__ import annotations
 
-import collections
 import functools
 import re
 import sys
-from collections.abc import Iterable, Iterator
+from collections.abc import Iterator
 from typing import NamedTuple
 
-from lib import type_tests
+from lib import type_lines, type_tests
+from lib.failed import ended
 from lib.libraries import CRATES, TOP
+from lib.type_lines import ALIAS, MEANT, PIN, STRUCT, TABLE, equal, premises, said_in, table_of
 
-TABLE = CRATES / "tls_codec/src"
 PAGE = TOP / "docs/API.md"
 EXPORT = re.compile(r"^pub use (\w+)::(?:\{([^{}*]*)\}|(\w+));", re.M)
 NAME = re.compile(r"[A-Z]\w*")
 # an impl of a trait for a type, with or without parameters: a name, a tuple, an array or a slice
 TYPE = r"&?(?:'a )?(\w+)|(\([^)]*\)|&?\[[^\]]*\])"
 IMPL = re.compile(rf"^impl(?:<[^{{]*?>)? (\w+)(?:<[A-Z]>)?\s+for (?:{TYPE})", re.M)
-# the same with the whole type, and a type that its crate alone can name
-IMPL_OF = re.compile(r"^impl\b[^{]*?\b(\w+)(?:<\w+>)?\s+for\s+([^{]+?)(?:\s+where\b[^{]*)?\s*\{", re.M)
-HIDDEN = re.compile(r"^pub\(crate\) struct (\w+)", re.M)
 DERIVE = re.compile(r"#\[derive\(([^)]*)\)\]\n(?:#\[[^\n]*\]\n)*pub struct (\w+)")
-ALIAS = re.compile(r"^pub type (\w+)(?:<[^=]*>)? = (\w+)", re.M)
-STRUCT = re.compile(r"^pub (?:struct|enum) (\w+)", re.M)
 
 # what reads a type from a slice, and what validates its bytes
 VALIDATED = {"DeserializeBytes": "Validate", "DeserializeBytesFor": "ValidateFor", "SplitCases": "ValidateCases"}
-# What pins the `ghost` definition of an impl of a trait, in a clause of a table: the word, and the member unless it is all of them.
-Pins = dict[str, tuple[str, str]]
-# In types.rt of `tls_codec_validate`.
-PINS: Pins = {
-    "Validate": ("SamePlaces", "places"),
-    "ValidateFor": ("SamePlacesFor", "places"),
-    "ValidateCases": ("SameVariantPlaces", "places"),
-    "Keyed": ("SameKeys", "is_key"),
-}
-# In types.rt and contexts.rt of `tls_codec`.
-MEANT: Pins = {
-    "Size": ("Means", ""),
-    "Deserialize": ("SameSourceNames", "names"),
-    "DeserializeBytes": ("SameNames", "names"),
-    "SizeFor": ("SameFormat", "format_for"),
-    "DeserializeFor": ("SameSourceNames", "names"),
-    "DeserializeBytesFor": ("SameNames", "names"),
-    "LengthField": ("SameField", "field"),
-}
-# A line: its word, the type, the trait, the member, and what it is said to be. And one of equality.rt, of a type's parts before it.
-PIN = re.compile(
-    r"^ *ensures(?: \w+)? \{ (?:\(c : Tree\)\s+→ )?(\w+) \(?⟦<(.*?) as (\w+)(?:<\w+>)?>⟧(?:\.(\w+))?(?: c\))?\s(.*?) \}$",
-    re.M | re.S,
-)
-OF_IMPL = re.compile(r"⟦<(.*?) as \w+(?:<\w+>)?>⟧")
-EQUAL = re.compile(
-    r"^ *ensures(?: \w+)? \{ (?:EqualWhereAlike (\w)\.plain \1\.eq\s+→ )*"
-    r"EqualWhereAlike ⟦<(.*?) as Size>⟧\.plain\s+⟦<\2 as PartialEq>⟧\.eq \}$",
-    re.M,
-)
-# The types of std without a line in equality.rt, and why.
-NOT_EQUAL = {
-    "()": "it has one value",
-    "PhantomData": "it has one value",
-    "Box": "no line yet: std compares what boxes hold",
-}
 
 
 def exported() -> Iterator[tuple[str, str]]:
@@ -109,26 +68,7 @@ def traits_of(crate: str) -> dict[str, set[str]]:
     return found
 
 
-def said_in(table: str, pins: Pins) -> list[tuple[str, str]]:
-    """The types and traits that lines of these tables are of, without lines that say of a type what it is by its own impl."""
-    found = []
-    for word, of, trait, member, said in PIN.findall(table):
-        name = type_tests.shape(of)
-        if pins.get(trait) == (word, member) and name not in map(type_tests.shape, OF_IMPL.findall(said)):
-            found.append((name, trait))
-    return found
-
-
-def equal(table: str) -> list[str]:
-    """The types that lines of this text of equality.rt are of."""
-    return [type_tests.shape(of) for _, of in EQUAL.findall(table)]
-
-
-def table_of(trait: str) -> str:
-    """The table of tls_codec that has the lines of a trait."""
-    return "contexts.rt" if trait.endswith("For") else "types.rt"
-
-
+@functools.cache
 def lone_aliases(crate: str) -> dict[str, str]:
     """The types of a crate's other names, by these, except the names that are of a width."""
     sources = type_tests.texts((CRATES / crate / "src").rglob("*.rt"))[0]
@@ -152,34 +92,6 @@ def not_validated(name: str, traits: set[str], validated: dict[str, set[str]]) -
             yield f"tls_codec_validate: no {tells} for {name}"
 
 
-@functools.cache
-def impls_in(sources: str) -> list[tuple[str, str]]:
-    """The types and traits of the impls in these sources."""
-    return [(type_tests.shape(of), trait) for trait, of in IMPL_OF.findall(sources)]
-
-
-def pinned(sources: str, table: str, pins: Pins) -> dict[tuple[str, str], bool]:
-    """Whether each impl of these traits in these sources has a line in this table, by its type and trait: several have as many."""
-    hidden, said = HIDDEN.findall(sources), collections.Counter(said_in(table, pins))
-    impls = collections.Counter(impl for impl in impls_in(sources) if impl[1] in pins)
-    return {impl: said[impl] >= count for impl, count in impls.items() if impl[0] not in hidden}
-
-
-def not_pinned(sources: str, table: str, pins: Pins) -> Iterator[list[str]]:
-    """What each impl of these traits lacks."""
-    for (name, trait), is_pinned in pinned(sources, table, pins).items():
-        where = "types.rt of tls_codec_validate" if trait in PINS else table_of(trait)
-        yield [] if is_pinned else [f"{where}: no line of {pins[trait][0]} for {name} as {trait}"]
-
-
-def not_equal(sources: str, equality: str) -> Iterator[str]:
-    """The types of std with a decoder in these sources that have no line in this text of equality.rt, though NOT_EQUAL lacks them."""
-    own, said = STRUCT.findall(sources), equal(equality)
-    for name in sorted({name for name, trait in impls_in(sources) if trait == "Deserialize"} - {*own}):
-        if (name in said) == (name in NOT_EQUAL):
-            yield f"equality.rt: {name} has {'a line, and is an exception' if name in said else 'no line'}"
-
-
 # the letters of docs/API.md; D is both decoders
 LETTERS = {"Serialize": "S", "SerializeBytes": "B", "Deserialize": "D", "DeserializeBytes": "D"}
 # Words of specs/ of base for your own messages, with what the lines of `Means` have in their place.
@@ -191,6 +103,17 @@ SHORT_FOR = {
     "varint_of": "number_of",
 }
 WORD = re.compile(r"[A-Za-z]\w\w+")
+
+
+class Given(NamedTuple):
+    """The tables of types, the rows of docs/API.md and its part on contexts, the traits of each type by its crate, and validators'."""
+
+    types: str
+    equality: str
+    page: list[Row]
+    in_a_context: str
+    traits: dict[str, dict[str, set[str]]]
+    validated: dict[str, set[str]]
 
 
 class Row(NamedTuple):
@@ -288,6 +211,14 @@ def not_reserved(words: str) -> Iterator[str]:
             yield f"words.rt of tlsgen_model: no {name}, which generated code imports"
 
 
+def stored() -> Given:
+    """All that is compared, as it is stored."""
+    types, contexts, equality = ((TABLE / page).read_text() for page in ("types.rt", "contexts.rt", "equality.rt"))
+    in_a_context = PAGE.read_text().split("\n## In a context\n")[1].split("\n## ")[0]
+    traits = {crate: traits_of(crate) for crate in {crate for crate, _ in exported()}}
+    return Given(types + contexts, equality, rows(), in_a_context, traits, traits_of("tls_codec_validate"))
+
+
 def selftest(types: str, equality: str, page: list[Row]) -> Iterator[str]:
     """The planted faults that no check finds, each in a type that has none otherwise."""
     name, traits = "TlsVarInt", {"Size", "Serialize", "SerializeBytes", "Deserialize", "DeserializeBytes", "PartialEq"}
@@ -317,114 +248,57 @@ def selftest(types: str, equality: str, page: list[Row]) -> Iterator[str]:
     yield from (f"selftest: found: {it}" for found in sound for it in found)
 
 
-def pins_unseen(sources: str, table: str, pins: Pins, line: str) -> Iterator[str]:
-    """The planted faults in these texts that aren't found: each line of an impl that is gone, others in place of a line, and an impl."""
-    (word, of, trait, member, said), had = PIN.search(line).groups(), pinned(sources, table, pins)
-    other = next(it for it in pins if it != trait)
-    of_impls = [it for it in PIN.finditer(table) if (type_tests.shape(it[2]), it[3]) in had]
-    planted = {f"no line{found[0]}": (sources, table.replace(found[0], "")) for found in of_impls}
-    in_place = {
-        "a line that is a comment": f"// {line}",
-        "a line of another trait": line.replace(f" as {trait}>", f" as {other}>"),
-        "a line of another word": line.replace(word, next(it for it, _ in pins.values() if it != word)),
-        "a line of another member": line.replace(f"⟧.{member}" if member else "⟧", "⟧.other"),
-        "a line that a type is itself": line.replace(said, f"⟦<{of} as {trait}>⟧.{member}"),
-    }
-    planted |= {fault: (sources, table.replace(line, it)) for fault, it in in_place.items()}
-    planted |= {
-        "an impl without a line": (f"{sources}impl<T> {trait} for Held<T> {{\n", table),
-        "an impl of a type that has one": (f"{sources}impl {trait} for {of} {{\n", table),
-        "an impl for a reference": (f"{sources}impl<'a> {trait} for &'a Held {{\n", table),
-    }
-    yield from (f"selftest: not found: {fault}" for fault, texts in planted.items() if not any(not_pinned(*texts, pins)))
+def of_name(crate: str, name: str, given: Given) -> Iterator[list[str]]:
+    """What a name that tls_codec exports lacks: as another name that has lines of its own, and as that of a type."""
+    if of := lone_aliases(crate).get(name):
+        yield [*missing(name, given.traits[crate][of], given.types, given.equality)]
+    # (an impl for a type of wire is in base)
+    traits = given.traits[crate].get(name, set()) | given.traits["tls_codec_base"].get(name, set())
+    if traits & {"Size", "SizeFor"}:
+        lacks = [*missing(name, traits, given.types, given.equality), *not_validated(name, traits, given.validated)]
+        if "Size" in traits:
+            lacks += not_in_page(crate, name, traits, given.page)
+        elif not re.search(rf"\b{name}\b", given.in_a_context):
+            lacks.append(f"docs/API.md: no row for {name} in a context")
+        yield lacks
 
 
-def premises(*tables: str) -> Iterator[str]:
-    """The premises of these tables, without which a line need not hold."""
-    yield from (f"a table has a premise: {line.strip()}" for table in tables for line in re.findall(r"^ *requires\b.*", table, re.M))
+def of_types(given: Given) -> Iterator[list[str]]:
+    """What each row of docs/API.md has wrongly, and what each type lacks: those that are exported, of std, and of the cases."""
+    types, means = set(with_format(given.traits)), meanings(given.types)
+    yield from ([*without_type(row, types), *unlike(row, means)] for row in given.page)
+    names = list(exported())
+    yield from (lacks for crate, name in names for lacks in of_name(crate, name, given))
+    of_std = given.traits["tls_codec_base"].keys() - {name for _, name in names}
+    for name, traits in ((name, given.traits["tls_codec_base"][name]) for name in sorted(of_std)):
+        if "Size" in traits:
+            yield [*not_in_page("tls_codec_base", name, traits, given.page), *not_validated(name, traits, given.validated)]
+    for name, traits in sorted(traits_of("tls_codec_cases").items()):
+        if traits & VALIDATED.keys():
+            yield [*not_validated(name, traits, given.validated)]
 
 
-def equals_unseen(sources: str, equality: str) -> Iterator[str]:
-    """The planted faults in this text of equality.rt that aren't found: each line of a type of std that is gone, and others."""
-    line = "    ensures u16 { EqualWhereAlike ⟦<u16 as Size>⟧.plain ⟦<u16 as PartialEq>⟧.eq }"
-    own = {*STRUCT.findall(sources), *(name for name, _ in ALIAS.findall(sources))}
-    planted = {f"no line{it[0]}": equality.replace(it[0], "") for it in EQUAL.finditer(equality) if type_tests.shape(it[2]) not in own}
-    planted |= {
-        "a line that is a comment": equality.replace(line, f"// {line}"),
-        "a line of two types": equality.replace(line, line.replace("u16 as Size", "u8 as Size")),
-        "an exception that has a line": f"{equality}{line.replace('u16 as', '() as')}\n",
-    }
-    yield from (f"selftest: not found: {fault}" for fault, table in planted.items() if not any(not_equal(sources, table)))
-
-
-def pins(crates: set[str]) -> Iterator[bool]:
-    """Whether planted faults are found, and whether each impl of the types in these crates and of their validators has its line."""
-    folders = [CRATES / crate / "src" for crate in sorted(crates | {"tls_codec_grammar"})]
-    tables = [CRATES / "tls_codec_validate/src/types.rt"], [TABLE / "types.rt", TABLE / "contexts.rt"], [TABLE / "equality.rt"]
-    validators = (CRATES / "tls_codec_validate/src").rglob("*.rt")
-    sources, places, types, equality = type_tests.texts((path for folder in folders for path in folder.rglob("*.rt")), *tables)
-    of_validators = type_tests.texts(validators)[0], places, PINS
-    yield report(pins_unseen(*of_validators, "    ensures u16 { SamePlaces ⟦<u16 as Validate>⟧.places (here (too_few 2)) }"))
-    yield report(pins_unseen(sources, types, MEANT, "    ensures u16 { Means ⟦<u16 as Size>⟧ Number (number_format 2) }"))
-    line = "    ensures u16_source { SameSourceNames ⟦<u16 as Deserialize>⟧.names (ReadRefused 2) }"
-    yield report([*pins_unseen(sources, types, MEANT, line), *equals_unseen(sources, equality)])
-    yield report(premises(places, types, equality))
-    yield from map(report, [*not_pinned(*of_validators), *not_pinned(sources, types, MEANT), not_equal(sources, equality)])
-
-
-def report(lacks: Iterable[str]) -> bool:
-    """Prints what a type lacks. Returns whether it lacks nothing."""
-    lines = list(lacks)
-    print("".join(f"{line}\n" for line in lines), end="")
-    return not lines
-
-
-def tested(crates: set[str]) -> Iterator[bool]:
-    """Whether planted faults are found; whether each type in types.rt has its tests, and each row of crates/test_values its answer."""
+def of_tests(crates: set[str]) -> tuple[list[list[str]], list[list[str]]]:
+    """What each type in types.rt lacks of its tests, and each row of crates/test_values of its answer; first the faults not found."""
     given, tried = type_tests.library(crates), type_tests.tests()
     without = type_tests.exceptions(type_tests.WITHOUT.read_text(encoding="utf-8"))
-    yield report(f"selftest: not found: {fault}" for fault in type_tests.unseen(given, tried, without))
-    types, rows = type_tests.lacking(given, tried, without), type_tests.wrong_rows(tried)
-    yield from map(report, [*types.values(), *rows])
-    print(f"the tests of {len(types) - 1} types, and {len(rows) - 1} rows of test_values, were read")
+    missed = [f"selftest: not found: {fault}" for fault in type_tests.unseen(given, tried, without)]
+    return [missed, *type_tests.lacking(given, tried, without).values()], type_tests.wrong_rows(tried)
 
 
 def main() -> int:
-    types, contexts, equality = ((TABLE / page).read_text() for page in ("types.rt", "contexts.rt", "equality.rt"))
-    types += contexts
-    names = list(exported())
-    by_crate = {crate: traits_of(crate) for crate in {crate for crate, _ in names}}
-    validated = traits_of("tls_codec_validate")
-    page, decided = rows(), PAGE.read_text().split("\n## In a context\n")[1].split("\n## ")[0]
-    types_of, means = set(with_format(by_crate)), meanings(types)
-    words = (CRATES / "tlsgen_model/src/words.rt").read_text()
-    results = [report(selftest(types, equality, page)), report(not_reserved(words)), *tested(set(by_crate)), *pins(set(by_crate))]
-    results += [report([*without_type(row, types_of), *unlike(row, means)]) for row in page]
-    for crate, name in names:
-        of = lone_aliases(crate).get(name)
-        if of:
-            results.append(report(missing(name, by_crate[crate][of], types, equality)))
-        # (an impl for a type of wire is in base)
-        traits = by_crate[crate].get(name, set()) | by_crate["tls_codec_base"].get(name, set())
-        if traits & {"Size", "SizeFor"}:
-            lacks = [*missing(name, traits, types, equality), *not_validated(name, traits, validated)]
-            if "Size" in traits:
-                lacks += not_in_page(crate, name, traits, page)
-            elif not re.search(rf"\b{name}\b", decided):
-                lacks.append(f"docs/API.md: no row for {name} in a context")
-            results.append(report(lacks))
-    for name, traits in sorted(by_crate["tls_codec_base"].items()):
-        if "Size" in traits and name not in {name for _, name in names}:
-            results.append(report([*not_in_page("tls_codec_base", name, traits, page), *not_validated(name, traits, validated)]))
-    for name, traits in sorted(traits_of("tls_codec_cases").items()):
-        if traits & VALIDATED.keys():
-            results.append(report(not_validated(name, traits, validated)))
-    results.append(report(errors_lacking((CRATES / "tls_codec/specs/Errors.antt").read_text())))
-    results.append(report(exports_unread((TABLE / "lib.rt").read_text())))
-    passed = sum(results)
-    print(f"{passed} passed, {len(results) - passed} failed")
-    return 0 if passed == len(results) else 1
+    given = stored()
+    crates, words = set(given.traits), (CRATES / "tlsgen_model/src/words.rt").read_text()
+    tested, rows = of_tests(crates)
+    results = [[*selftest(given.types, given.equality, given.page)], [*not_reserved(words)], *tested, *rows, *type_lines.findings(crates)]
+    results += of_types(given)
+    results += [[*errors_lacking((CRATES / "tls_codec/specs/Errors.antt").read_text())], exports_unread((TABLE / "lib.rt").read_text())]
+    print("".join(f"{line}\n" for lines in results for line in lines), end="")
+    failed = sum(map(bool, results))
+    print(f"the tests of {len(tested) - 2} types, and {len(rows) - 1} rows of test_values, were read")
+    print(f"{len(results) - failed} passed, {failed} failed")
+    return 1 if failed else 0
 
 
 if __name__ == "__main__":
-    sys.exit(main())
+    sys.exit(ended(main))

@@ -26,6 +26,7 @@ import tempfile
 from collections.abc import Iterator
 
 from lib import edits, type_tests
+from lib.failed import ended
 from lib.libraries import CRATES, TOP, Libraries
 
 FUNCTION = re.compile(r'( *)(pub )?(?:final |const |unsafe |extern "C" )*fn (?:r#)?(\w+)')
@@ -368,4 +369,4 @@ def main() -> int:
 
 
 if __name__ == "__main__":
-    sys.exit(main())
+    sys.exit(ended(main))

@@ -8,9 +8,9 @@ pictures with attributes alone, for a look at them by a program that knows no st
 """
 from __future__ import annotations
 
+import argparse
 import html
 import pathlib
-import sys
 import textwrap
 
 from lib.arrows import Box, Line, arrows
@@ -296,10 +296,14 @@ def tlsdump(dark: bool) -> Picture:
 PICTURES = {"message.svg": message, "limits.svg": limits, "crates.svg": crates, "tlsdump.svg": tlsdump}
 
 
-def main(folder: str | pathlib.Path = TOP / "docs", colours: str = "light") -> None:
+def main() -> None:
+    parser = argparse.ArgumentParser()
+    parser.add_argument("folder", nargs="?", type=pathlib.Path, default=TOP / "docs")
+    parser.add_argument("colours", nargs="?", choices=["light", "dark"], default="light")
+    given = parser.parse_args()
     for name, draw in PICTURES.items():
-        (pathlib.Path(folder) / name).write_text(draw(colours == "dark").svg())
+        (given.folder / name).write_text(draw(given.colours == "dark").svg())
 
 
 if __name__ == "__main__":
-    main(*sys.argv[1:])
+    main()

@@ -22,6 +22,7 @@ import subprocess
 import sys
 import tempfile
 
+from lib.failed import ended
 from lib.libraries import PAGES, TOP
 from lib.page_commands import Rules, copy_of_clone, difference, lines_of_rules, script_of, steps
 
@@ -103,10 +104,10 @@ def main() -> int:
     pages = [it for it in sys.argv[1:] or files if has_commands(it)]
     # (two builds take the memory that .ci/run has for a script)
     with concurrent.futures.ThreadPoolExecutor(2) as pool:
-        ended = list(pool.map(results, pages))
+        found = list(pool.map(results, pages))
     failed = selftest()
-    passed = sum(count for count, _ in ended) + (not failed)
-    failed += [line for _, lines in ended for line in lines]
+    passed = sum(count for count, _ in found) + (not failed)
+    failed += [line for _, lines in found for line in lines]
     failed += wrong_rules([it for it in files if has_commands(it)])
     print("".join(f"{line}\n" for line in failed), end="")
     print(f"the commands of {len(pages)} pages were run")
@@ -115,4 +116,4 @@ def main() -> int:
 
 
 if __name__ == "__main__":
-    sys.exit(main())
+    sys.exit(ended(main))

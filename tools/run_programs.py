@@ -21,7 +21,7 @@ import tempfile
 
 from lib import cases, generated, rejections
 from lib.failed import Failed, ended
-from lib.libraries import CRATES, TOP
+from lib.libraries import CRATES, TOP, run
 
 # Inputs that aren't stored: the most bytes that tlsdump takes, and one more. They are a length of 0, and then a content.
 MOST = 16 << 20
@@ -69,9 +69,11 @@ AFTER_REFUSAL = {
     (NO_ROOM, "tlsdump: out of memory\n"),
     (2, "error: out of memory\n"),
 }
-# Which requests are refused in the built program: the first, the second, the fourth, .., the 4,096th. The least of them that end it.
+# Which requests are refused in the built program: the first, the second, the fourth, .., the 4,096th. The least of them that end it. How
+# many seconds each run may take.
 POWERS = 13
 LEAST_REFUSALS = 8
+SECONDS = 60
 
 
 def status_in(path: pathlib.Path) -> int:
@@ -123,20 +125,29 @@ def ends_well_if_refused() -> bool:
     return False
 
 
-def with_one_refused(program: pathlib.Path, run: pathlib.Path) -> tuple[bool, str]:
+def with_refused(program: pathlib.Path, stored: pathlib.Path, environment: dict[str, str]) -> tuple[int, str, str]:
+    """The status, the output and standard error of a built program on a stored run; those of `timeout`, if it doesn't end."""
+    with stored.open("rb") as given:
+        try:
+            ran = subprocess.run([program], env=environment, stdin=given, capture_output=True, text=True, timeout=SECONDS)
+        except subprocess.TimeoutExpired:
+            return 124, "", f"it had not ended after {SECONDS} seconds"
+    return ran.returncode, ran.stdout, ran.stderr
+
+
+def with_one_refused(program: pathlib.Path, stored: pathlib.Path) -> tuple[bool, str]:
     """Whether a built program prints nothing but why it ended, or all that it must, if its first request for memory is refused, its second,
     its fourth and so on, and how it ended each time. Some it can do without."""
     ends: list[tuple[int, int, str, str]] = []
     with tempfile.TemporaryDirectory() as room:
         library = pathlib.Path(room, "refused_request.so")
         source = TOP / "tools" / "data" / "refused_request.c"
-        subprocess.run(["cc", "-O2", "-fno-builtin", "-shared", "-fPIC", "-o", library, source], check=True)
+        status, said = run(["cc", "-O2", "-fno-builtin", "-shared", "-fPIC", "-o", str(library), str(source)], TOP)
+        if status:
+            raise Failed(f"{source.relative_to(TOP)}: cc ended with status {status}:\n{said}")
         for number in (1 << power for power in range(POWERS)):
-            with run.open("rb") as given:
-                environment = {"LD_PRELOAD": str(library), "REFUSED": str(number)}
-                ran = subprocess.run([program], env=environment, stdin=given, capture_output=True, text=True, timeout=60)
-            ends.append((number, ran.returncode, ran.stdout, ran.stderr))
-    whole = (0, run.with_suffix(".stdout").read_text(encoding="utf-8"), "")
+            ends.append((number, *with_refused(program, stored, {"LD_PRELOAD": str(library), "REFUSED": str(number)})))
+    whole = (0, stored.with_suffix(".stdout").read_text(encoding="utf-8"), "")
     refused = [it for _, *it in ends if tuple(it) != whole]
     are_so = all(not printed and (status, said) in AFTER_REFUSAL for status, printed, said in refused)
     return are_so and len(refused) >= LEAST_REFUSALS, "\n".join(map(str, ends))

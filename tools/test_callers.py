@@ -25,7 +25,7 @@ from lib.caller_examples import boundary, hello, readmes, sender, stream
 from lib.caller_inputs import PLACES, SIGNED, USED, captured, hellos, vector, written_in_c
 from lib.caller_room import ALL, C, COMMIT, DECODERS, PYTHON, SANITIZED, WARNINGS, Room
 from lib.exports_c import MARK, minor
-from lib.failed import Failed
+from lib.failed import Failed, ended
 from lib.libraries import ROWS, TOP, Libraries
 from lib.shared_object import SHARED
 
@@ -293,12 +293,8 @@ def main() -> int:
     failed = 0
     with tempfile.TemporaryDirectory(prefix="callers-") as folder:
         room = Room(pathlib.Path(folder), pathlib.Path(sys.argv[1] if sys.argv[1:] else f"{folder}/archives"))
-        try:
-            if not sys.argv[1:]:
-                build(room.archives)
-        except (Failed, OSError) as error:
-            print(f"no archive: FAILED: {error}\n0 passed, 1 failed")
-            return 1
+        if not sys.argv[1:]:
+            build(room.archives)
         tests = all_tests()
         for name, test in tests.items():
             try:
@@ -312,4 +308,4 @@ def main() -> int:
 
 
 if __name__ == "__main__":
-    sys.exit(main())
+    sys.exit(ended(main))

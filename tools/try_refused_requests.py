@@ -12,6 +12,7 @@ import sys
 import tempfile
 
 from lib import cases
+from lib.failed import Failed, ended
 from lib.libraries import CRATES
 
 CRATE = CRATES / "test_memory"
@@ -19,8 +20,10 @@ CRATE = CRATES / "test_memory"
 
 def number(pattern: str, file: str) -> int:
     """The one number in this file of the crate, at the place that the pattern says."""
-    (found,) = re.findall(pattern, (CRATE / file).read_text(encoding="utf-8"), re.M)
-    return int(found)
+    found = re.findall(pattern, (CRATE / file).read_text(encoding="utf-8"), re.M)
+    if len(found) != 1:
+        raise Failed(f"crates/{CRATE.name}/{file} has {len(found)} texts {pattern!r}, and must have one")
+    return int(found[0])
 
 
 def run(last: int, lines: dict[int, str]) -> cases.Tried:
@@ -51,4 +54,4 @@ def main() -> int:
 
 
 if __name__ == "__main__":
-    sys.exit(main())
+    sys.exit(ended(main))

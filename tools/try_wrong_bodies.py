@@ -26,6 +26,7 @@ import tempfile
 
 from lib import edits, verdicts
 from lib.edits import Edit
+from lib.failed import Failed, ended
 from lib.libraries import CRATES, TOP, Libraries
 from lib.verdicts import Kind, Verdict
 
@@ -124,8 +125,7 @@ def main() -> int:
     for name in given.names or sorted(it.parent.name for it in CRATES.glob("*/wrong")):
         crate, _, edit = name.partition("/")
         if crate not in libraries.uses:
-            print(f"crates.txt has no crate {crate}\n0 passed, 1 failed")
-            return 1
+            raise Failed(f"crates.txt has no crate {crate}")
         wanted[crate] = [*wanted.get(crate, []), edit] if edit else []
     refresh(libraries, [it for it in wanted if (CRATES / it / "wrong").is_dir()])
     passed, failed, waiting = 1, 0, []
@@ -137,13 +137,13 @@ def main() -> int:
     with concurrent.futures.ThreadPoolExecutor(given.j or lanes()) as pool:
         # (the longest first)
         running = {pool.submit(tried, libraries, given, *it): it[0] for it in sorted(waiting, key=lambda it: -len(it[1]))}
-        for ended in concurrent.futures.as_completed(running):
-            for edit, verdict in ended.result():
-                print(f"{running[ended]}/{edit.name}: {verdict}", flush=True)
+        for it in concurrent.futures.as_completed(running):
+            for edit, verdict in it.result():
+                print(f"{running[it]}/{edit.name}: {verdict}", flush=True)
                 passed, failed = passed + (verdict.kind is Kind.REFUSED), failed + (verdict.kind is not Kind.REFUSED)
     print(f"{passed} passed, {failed} failed")
     return 1 if failed else 0
 
 
 if __name__ == "__main__":
-    sys.exit(main())
+    sys.exit(ended(main))

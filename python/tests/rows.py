@@ -68,7 +68,7 @@ def have_lengths(validators: Validators, name: str, data: bytes) -> bool:
     """Whether the lists among the fields of an accepted message have their lengths, as WITH_LENGTH says."""
     lists = LISTS[name.partition("_")[0]]
     found = {it: value for it, value in validators.locate_prefix(name, data)[0].items() if it in lists} if name in FIELDS else {}
-    taken = {it: validators.outcome(lists[it], value, Span()).taken for it, value in found.items()}
+    taken = {it: validators._outcome(lists[it], value, Span()).taken for it, value in found.items()}
     return all(taken[it] == len(value) and it in WITH_LENGTH[name] for it, value in found.items())
 
 
@@ -176,7 +176,7 @@ def are_names_listed(validators: Validators) -> bool:
         lookup(lambda: validators.validate("mls_keypackage", b"")),
         lookup(lambda: validators.locate("mls_ratchet_tree", b"")),
         lookup(lambda: list(validators.elements("mls_extensions", b""))),
-        lookup(lambda: validators.outcome("mls_framed_content_tbs_encode", b"")),
+        lookup(lambda: validators._outcome("mls_framed_content_tbs_encode", b"")),
         lookup(lambda: validators.decode_check("mls_extension", b"")),
     ]
     bare = Validators(sys.argv[1])

@@ -39,7 +39,7 @@ def fields_with_length() -> dict[str, list[str]]:
 
 
 def called_by_outcome() -> list[str]:
-    """The calls that `Validators.outcome` of Python makes: all that are given bytes, and then what they fill."""
+    """The calls that `Validators._outcome` of Python makes: all that are given bytes, and then what they fill."""
     return [it.name for crate in libraries() for it in exports_of(crate) if it.call != "_encode"]
 
 

@@ -6,7 +6,8 @@ import pathlib
 import re
 import shutil
 import subprocess
-import sys
+
+from lib.failed import Failed
 
 TOP = pathlib.Path(__file__).resolve().parents[2]
 CRATES = TOP / "crates"
@@ -66,7 +67,9 @@ class Libraries:
     def kit(self) -> pathlib.Path:
         """The folder of the kit that `rt` is of."""
         found = shutil.which("rt")
-        return pathlib.Path(found).resolve().parent.parent if found else sys.exit("rt isn't on the path")
+        if not found:
+            raise Failed("rt isn't on the path")
+        return pathlib.Path(found).resolve().parent.parent
 
     def below(self, crate: str) -> list[str]:
         """The repository's libraries that a crate uses, directly or not."""
