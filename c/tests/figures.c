@@ -19,13 +19,13 @@ static size_t touched(message_call *it) {
   pthread_attr_t attributes;
   pthread_t thread;
   called = it;
-  memset(stack, 0xa5, sizeof stack);
+  memset(stack, MARK, sizeof stack);
   pthread_attr_init(&attributes);
   if (pthread_attr_setstack(&attributes, stack, sizeof stack) || pthread_create(&thread, &attributes, run, NULL) ||
       pthread_join(thread, NULL))
     exit(2);
   size_t at = 0;
-  while (at < sizeof stack && stack[at] == 0xa5) at++;
+  while (at < sizeof stack && stack[at] == MARK) at++;
   return sizeof stack - at;
 }
 

@@ -5,8 +5,6 @@
  * bytes of `NAME_next` are those of a list after its length; each of their bits is turned in its turn. What is rejected fills nothing. */
 #include "rows.h"
 
-enum { MARK = 0xa5 };
-
 typedef tls_codec_outcome next(const uint8_t *bytes, size_t length, tls_codec_span *left, tls_codec_span *element);
 
 struct list {
@@ -36,13 +34,6 @@ static void add(struct answer *it, tls_codec_span place) {
   snprintf(it->filled + used, sizeof it->filled - used, "%s%zu+%zu", used ? " " : "", place.offset, place.size);
 }
 
-static int are_marks(const void *places, size_t size) {
-  const unsigned char *byte = places;
-  for (size_t i = 0; i < size; i++)
-    if (byte[i] != MARK) return 0;
-  return 1;
-}
-
 static int is_place(tls_codec_span it, size_t offset, size_t size) { return it.offset == offset && it.size == size; }
 
 /* Goes over a list. Returns whether each call moves what is left past the element, or, if it rejects the bytes, moves nothing. */
@@ -65,9 +56,9 @@ static int is_sound_with_each_bit_turned(next *next, uint8_t *bytes, size_t leng
   int failed = 0;
   for (size_t bit = 0; bit < 8 * length; bit++) {
     struct answer answer = {{0, 0, 0, 0}, ""};
-    bytes[bit / 8] ^= (uint8_t)(1u << bit % 8);
+    turn(bytes, bit);
     failed += !go_over(next, bytes, length, &answer);
-    bytes[bit / 8] ^= (uint8_t)(1u << bit % 8);
+    turn(bytes, bit);
   }
   return failed == 0;
 }

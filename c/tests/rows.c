@@ -19,13 +19,13 @@ struct located {
   tls_codec_span spans[sizeof(union fields) / sizeof(tls_codec_span)];
 };
 
-/* Calls the message's `locate`, or its `locate_prefix`, over a struct whose bytes are all 0xa5. No spans: it has neither. */
+/* Calls the message's `locate`, or its `locate_prefix`, over a struct of marks. No spans: it has neither. */
 static struct located locate(const char *name, int is_whole, const uint8_t *bytes, size_t length) {
   struct located found = {{0, 0, 0, 0}, 0, {{0, 0}}};
 #define LOCATED(message, fields)                                                                                   \
   if (strcmp(name, #message) == 0) {                                                                               \
     fields it;                                                                                                     \
-    memset(&it, 0xa5, sizeof it);                                                                                  \
+    memset(&it, MARK, sizeof it);                                                                                  \
     found.outcome = is_whole ? message##_locate(bytes, length, &it) : message##_locate_prefix(bytes, length, &it); \
     found.count = sizeof it / sizeof(tls_codec_span);                                                              \
     memcpy(found.spans, &it, sizeof it);                                                                           \
@@ -36,12 +36,7 @@ static struct located locate(const char *name, int is_whole, const uint8_t *byte
 }
 
 /* Whether the struct is as it was. */
-static int is_kept(const struct located *it) {
-  const unsigned char *byte = (const unsigned char *)it->spans;
-  for (size_t i = 0; i < it->count * sizeof(tls_codec_span); i++)
-    if (byte[i] != 0xa5) return 0;
-  return 1;
-}
+static int is_kept(const struct located *it) { return are_marks(it->spans, it->count * sizeof(tls_codec_span)); }
 
 /* Whether each field is after the one before it, and all of them in the message. */
 static int are_in(const struct located *it, size_t taken) {
@@ -96,9 +91,9 @@ static int is_sound_with_a_byte_more(const struct message *it, const uint8_t *by
 static int is_sound_with_each_bit_turned(const struct message *it, uint8_t *bytes, size_t length) {
   int failed = !is_sound(it, bytes, length);
   for (size_t bit = 0; bit < 8 * length; bit++) {
-    bytes[bit / 8] ^= (uint8_t)(1u << bit % 8);
+    turn(bytes, bit);
     failed += !is_sound(it, bytes, length);
-    bytes[bit / 8] ^= (uint8_t)(1u << bit % 8);
+    turn(bytes, bit);
   }
   if (failed) printf("%s: of %zu bits turned, %d say what can't be\n", it->name, 8 * length, failed);
   return failed == 0;

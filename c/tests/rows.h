@@ -1,4 +1,4 @@
-/* What the tests in C share: a row's bytes, the text of an outcome, how two compare, and the messages with their calls. */
+/* What the tests in C share: a row's bytes, marked bytes, the text of an outcome, how two compare, and the messages with their calls. */
 #ifndef ROWS_H
 #define ROWS_H
 
@@ -43,6 +43,20 @@ static inline uint8_t *bytes_of(const char *digits, size_t *length) {
   }
   *length = count / 2;
   return bytes;
+}
+
+/* Turns a bit of some bytes, or turns it back. */
+static inline void turn(uint8_t *bytes, size_t bit) { bytes[bit / 8] ^= (uint8_t)(1u << bit % 8); }
+
+/* What each byte that a call may fill is before the call. */
+enum { MARK = 0xa5 };
+
+/* Whether a call has left them all as they were. */
+static inline int are_marks(const void *marked, size_t size) {
+  const unsigned char *byte = marked;
+  for (size_t i = 0; i < size; i++)
+    if (byte[i] != MARK) return 0;
+  return 1;
 }
 
 /* An outcome as a row has it, `STATUS TAKEN AT DETAIL`. The next call overwrites the text. */

@@ -5,13 +5,7 @@
  * bytes is NULL. */
 #include "rows.h"
 
-enum { SPARE = 3, MARK = 0xa5 };
-
-static int are_marks(const uint8_t *bytes, size_t count) {
-  for (size_t i = 0; i < count; i++)
-    if (bytes[i] != MARK) return 0;
-  return 1;
-}
+enum { SPARE = 3 };
 
 static int is_as_expected(char **columns) {
   uint16_t wire_format = (uint16_t)atoi(columns[0]);

@@ -104,10 +104,25 @@ fn data_fill_their_length(rt: HostRuntime) -> Result<(), Fail> {
         HelloExtension::tls_deserialize_exact_bytes(alloc, &long).err(),
         trailing
     );
-    let short = [0, 0x2b, 0, 4, 2, 3, 4];
     let cut = Some(Error::EndOfStream);
+    // The list is whole, and the length says a byte more. The reader path finds that after the list.
+    let short = [0, 0x2b, 0, 4, 2, 3, 4];
+    assert_eq!(rt;
+        HelloExtension::tls_deserialize_exact(alloc, &short).err(),
+        trailing
+    );
     assert_eq!(rt;
         HelloExtension::tls_deserialize_exact_bytes(alloc, &short).err(),
+        cut
+    );
+    // The list is cut off.
+    let shorter = [0, 0x2b, 0, 4, 2, 3];
+    assert_eq!(rt;
+        HelloExtension::tls_deserialize_exact(alloc, &shorter).err(),
+        cut
+    );
+    assert_eq!(rt;
+        HelloExtension::tls_deserialize_exact_bytes(alloc, &shorter).err(),
         cut
     );
     Ok(())

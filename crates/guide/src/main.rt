@@ -24,17 +24,17 @@ pub mod chained;
 pub mod credential;
 #[cfg(test)]
 mod credential_tests;
-#[cfg(test)]
-mod decided;
 pub mod extension;
 pub mod hello_extension;
 pub mod hello_extension_for;
 #[cfg(test)]
 mod hello_extension_tests;
 #[cfg(test)]
-mod readme;
+mod readme_tests;
 pub mod rewrite;
 pub mod signed;
+#[cfg(test)]
+mod signed_tests;
 #[cfg(test)]
 mod tests;
 

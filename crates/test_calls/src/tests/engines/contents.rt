@@ -1,97 +1,106 @@
 //! Elements and bytes after each length.
-use crate::tests::{holds, same};
+use crate::tests::{holds, same, same_at};
 use std::alloc::Global;
 use std::process::Abort;
 use std::test::Fail;
 use tls_codec_base::{LengthField, counted, opaque};
 use tls_codec_wire::{Error, TlsVarInt, U24};
 
-// The elements 1 and 2 as `u16` after their length, and the bytes 9, 8 after theirs, are these.
-fn expect_contents_after<F: LengthField>(
+// The elements 1 and 2 as `u16` after a length of this field are these bytes.
+fn expect_list_after<F: LengthField>(
     rt: &impl Abort,
     alloc: Global,
-    list: &[u8],
+    field: &'static str,
+    bytes: &[u8],
+) -> Result<(), Fail> {
+    let elements = [1u16, 2];
+    let count = bytes.len();
+    let announced = counted::announced_len::<F, u16>(&elements);
+    same_at(rt, (field, "announced_len"), announced, count);
+    let made = counted::to_vec::<F, u16>(alloc, &elements)?;
+    same_at(rt, (field, "to_vec"), made.as_slice(), bytes);
+    let mut out = Vec::new(alloc);
+    let sent = counted::write::<F, u16, Vec<u8>>(&mut out, &elements);
+    same_at(rt, (field, "write"), sent, Ok(count));
+    let appended = counted::append::<F, u16>(&mut out, &elements);
+    same_at(rt, (field, "append"), appended, Ok(count));
+    let mut twice = bytes.to_vec(alloc)?;
+    twice.extend_from_slice(bytes)?;
+    same_at(
+        rt,
+        (field, "write and append"),
+        out.as_slice(),
+        twice.as_slice(),
+    );
+    let (split, rest) = counted::split::<F, u16>(alloc, &twice)?;
+    same_at(rt, (field, "split"), split.as_slice(), elements.as_slice());
+    same_at(rt, (field, "rest of split"), rest, bytes);
+    let mut src = twice.as_slice();
+    let read = counted::read::<F, u16, &[u8]>(alloc, &mut src)?;
+    same_at(rt, (field, "read"), read.as_slice(), elements.as_slice());
+    same_at(rt, (field, "rest of read"), src, bytes);
+    Ok(())
+}
+
+// The bytes 9 and 8 after a length of this field are these, and this error comes of all but the last of them.
+fn expect_opaque_after<F: LengthField>(
+    rt: &impl Abort,
+    alloc: Global,
+    field: &'static str,
     bytes: &[u8],
     cut_off: Error,
 ) -> Result<(), Fail> {
-    let elements = [1u16, 2];
-    same(rt, counted::announced_len::<F, u16>(&elements), list.len());
-    same(
-        rt,
-        counted::to_vec::<F, u16>(alloc, &elements)?.as_slice(),
-        list,
-    );
-    let mut out = Vec::new(alloc);
-    same(
-        rt,
-        counted::write::<F, u16, Vec<u8>>(&mut out, &elements),
-        Ok(list.len()),
-    );
-    same(
-        rt,
-        counted::append::<F, u16>(&mut out, &elements),
-        Ok(list.len()),
-    );
-    let mut twice = list.to_vec(alloc)?;
-    twice.extend_from_slice(list)?;
-    same(rt, out.as_slice(), twice.as_slice());
-    let (split, rest) = counted::split::<F, u16>(alloc, &twice)?;
-    same(rt, split.as_slice(), elements.as_slice());
-    same(rt, rest, list);
-    let mut src = twice.as_slice();
-    same(
-        rt,
-        counted::read::<F, u16, &[u8]>(alloc, &mut src)?.as_slice(),
-        elements.as_slice(),
-    );
-    same(rt, src, list);
-
     let content = [9, 8];
-    same(rt, opaque::announced_len::<F>(&content), bytes.len());
-    same(rt, opaque::to_vec::<F>(alloc, &content)?.as_slice(), bytes);
+    let count = bytes.len();
+    let announced = opaque::announced_len::<F>(&content);
+    same_at(rt, (field, "announced_len"), announced, count);
+    let made = opaque::to_vec::<F>(alloc, &content)?;
+    same_at(rt, (field, "to_vec"), made.as_slice(), bytes);
     let mut out = Vec::new(alloc);
-    same(
-        rt,
-        opaque::write::<F, Vec<u8>>(&mut out, &content),
-        Ok(bytes.len()),
-    );
-    same(rt, opaque::append::<F>(&mut out, &content), Ok(bytes.len()));
+    let sent = opaque::write::<F, Vec<u8>>(&mut out, &content);
+    same_at(rt, (field, "write"), sent, Ok(count));
+    let appended = opaque::append::<F>(&mut out, &content);
+    same_at(rt, (field, "append"), appended, Ok(count));
     let (split, rest) = opaque::split::<F>(&out)?;
-    same(rt, split, content.as_slice());
-    same(rt, rest, bytes);
+    same_at(rt, (field, "split"), split, content.as_slice());
+    same_at(rt, (field, "rest of split"), rest, bytes);
     let mut src = out.as_slice();
-    same(
+    let read = opaque::read::<F, &[u8]>(alloc, &mut src)?;
+    same_at(rt, (field, "read"), read.as_slice(), content.as_slice());
+    same_at(rt, (field, "rest of read"), src, bytes);
+    let mut cut = &bytes[..count.saturating_sub(1)];
+    let refused = opaque::split::<F>(cut).err();
+    same_at(rt, (field, "split, cut off"), refused, Some(cut_off));
+    let refused = opaque::read::<F, &[u8]>(alloc, &mut cut).err();
+    same_at(
         rt,
-        opaque::read::<F, &[u8]>(alloc, &mut src)?.as_slice(),
-        content.as_slice(),
-    );
-    same(rt, src, bytes);
-    let mut cut = &bytes[..bytes.len().saturating_sub(1)];
-    holds(rt, opaque::split::<F>(cut) == Err(cut_off));
-    holds(
-        rt,
-        opaque::read::<F, &[u8]>(alloc, &mut cut) == Err(Error::EndOfStream),
+        (field, "read, cut off"),
+        refused,
+        Some(Error::EndOfStream),
     );
     Ok(())
 }
 
 #[test]
-fn contents_after_each_length(rt: HostRuntime) -> Result<(), Fail> {
+fn elements_after_each_length(rt: HostRuntime) -> Result<(), Fail> {
+    let alloc = rt.alloc();
+    expect_list_after::<u8>(&rt, alloc, "u8", &[4, 0, 1, 0, 2])?;
+    expect_list_after::<u16>(&rt, alloc, "u16", &[0, 4, 0, 1, 0, 2])?;
+    expect_list_after::<U24>(&rt, alloc, "U24", &[0, 0, 4, 0, 1, 0, 2])?;
+    expect_list_after::<u32>(&rt, alloc, "u32", &[0, 0, 0, 4, 0, 1, 0, 2])?;
+    expect_list_after::<TlsVarInt>(&rt, alloc, "TlsVarInt", &[4, 0, 1, 0, 2])
+}
+
+#[test]
+fn bytes_after_each_length(rt: HostRuntime) -> Result<(), Fail> {
     let alloc = rt.alloc();
     let ends = Error::EndOfStream;
-    expect_contents_after::<u8>(&rt, alloc, &[4, 0, 1, 0, 2], &[2, 9, 8], ends)?;
-    expect_contents_after::<u16>(&rt, alloc, &[0, 4, 0, 1, 0, 2], &[0, 2, 9, 8], ends)?;
-    expect_contents_after::<U24>(&rt, alloc, &[0, 0, 4, 0, 1, 0, 2], &[0, 0, 2, 9, 8], ends)?;
-    expect_contents_after::<u32>(
-        &rt,
-        alloc,
-        &[0, 0, 0, 4, 0, 1, 0, 2],
-        &[0, 0, 0, 2, 9, 8],
-        ends,
-    )?;
+    expect_opaque_after::<u8>(&rt, alloc, "u8", &[2, 9, 8], ends)?;
+    expect_opaque_after::<u16>(&rt, alloc, "u16", &[0, 2, 9, 8], ends)?;
+    expect_opaque_after::<U24>(&rt, alloc, "U24", &[0, 0, 2, 9, 8], ends)?;
+    expect_opaque_after::<u32>(&rt, alloc, "u32", &[0, 0, 0, 2, 9, 8], ends)?;
     let not_there = Error::DecodingError("declared content is not there");
-    expect_contents_after::<TlsVarInt>(&rt, alloc, &[4, 0, 1, 0, 2], &[2, 9, 8], not_there)?;
-    Ok(())
+    expect_opaque_after::<TlsVarInt>(&rt, alloc, "TlsVarInt", &[2, 9, 8], not_there)
 }
 
 #[test]
