@@ -5,7 +5,7 @@ use std::{env, fs, process};
 
 // tools/check_exports.py writes the names
 const VALIDATORS: &[&str] = &["libtls_codec_lengths.a", "libtls_codec_tls13.a", "libtls_codec_mls.a"];
-const DECODERS: &[&str] = &["libtls_codec_tls13_check.a", "libtls_codec_mls_check.a"];
+const DECODERS: &[&str] = &["libtls_codec_tls13_decode.a", "libtls_codec_mls_decode.a"];
 const HEAP: &str = "libtls_codec_heap.a";
 const MARK: &str = include_str!("tls_codec.version");
 
@@ -14,7 +14,7 @@ fn main() {
     let here = PathBuf::from(env::var_os("CARGO_MANIFEST_DIR").expect("cargo names the folder"));
     let folder = env::var_os("TLS_CODEC_ARCHIVES").map_or(here.join("../c/out"), PathBuf::from);
     let mut names = VALIDATORS.to_vec();
-    if env::var_os("CARGO_FEATURE_CHECK").is_some() {
+    if env::var_os("CARGO_FEATURE_DECODE").is_some() {
         names.extend(DECODERS.iter().chain([&HEAP]));
         println!("cargo::rustc-link-lib=static=tls_codec_heap");
     }

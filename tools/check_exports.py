@@ -58,8 +58,8 @@ LINES: list[tuple[str, str, Callable[[], str]]] = [
     ("c/README.md", "find_package(tls_codec ", lambda: f"{minor()} REQUIRED)"),
     ("c/tls_codec.pc.in", "Version: ", version),
     ("c/tls_codec.pc.in", "Libs: ", lambda: flags(exported.validators())),
-    ("c/tls_codec_check.pc.in", "Version: ", version),
-    ("c/tls_codec_check.pc.in", "Libs: ", lambda: flags(exported.decoders(), "tls_codec_heap")),
+    ("c/tls_codec_decode.pc.in", "Version: ", version),
+    ("c/tls_codec_decode.pc.in", "Libs: ", lambda: flags(exported.decoders(), "tls_codec_heap")),
 ]
 
 # Other files that have the version, and what is before it there.

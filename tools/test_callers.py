@@ -52,7 +52,7 @@ find_package(tls_codec {minor} REQUIRED)
 add_executable(found {C}/tests/rows.c)
 target_link_libraries(found PRIVATE {targets})
 """
-# The files of rust/tests, and those that test nothing without the feature `check`.
+# The files of rust/tests, and those that test nothing without the feature `decode`.
 RUST_TESTS = ["places", "rows", "signed"]
 RUST_TESTS_OF_DECODERS = ["decoders"]
 
@@ -143,7 +143,7 @@ def rust(room: Room) -> None:
     files = sorted(it.stem for it in (TOP / "rust" / "tests").glob("*.rs"))
     if files != sorted(RUST_TESTS + RUST_TESTS_OF_DECODERS):
         raise Failed(f"rust/tests has {files}")
-    for features, tests in (([], RUST_TESTS), (["--features", "check"], files)):
+    for features, tests in (([], RUST_TESTS), (["--features", "decode"], files)):
         output = room.run(["cargo", "test", "--offline", "--quiet", *features], cwd=TOP / "rust", env=env).decode()
         # a result for each file with a test, and for the examples of the documentation
         if len(re.findall(r"test result: ok\. [1-9]", output)) < len(tests) + 1:
@@ -244,7 +244,7 @@ def pkg_config(room: Room) -> None:
     env = {**os.environ, "PKG_CONFIG_PATH": str(prefix)}
     for name, source, words, stdin in (
         ("tls_codec", "examples/boundary.c", [], bytes.fromhex(COMMIT.read_text())),
-        ("tls_codec_check", "tests/rows.c", [ROWS[1]], b""),
+        ("tls_codec_decode", "tests/rows.c", [ROWS[1]], b""),
     ):
         flags = room.run(["pkg-config", "--cflags", "--libs", name], env=env).decode().split()
         program = room.folder / f"by_pkg_config_{name}"

@@ -1,8 +1,8 @@
 // The headers in C++: each in any order, and called, also with NULL for no bytes.
 #include <tls_codec/all.h>
 #include <tls_codec/lengths.h>
-#include <tls_codec/tls13_check.h>
-#include <tls_codec/mls_check.h>
+#include <tls_codec/tls13_decode.h>
+#include <tls_codec/mls_decode.h>
 #include <tls_codec/tls13.h>
 #include <tls_codec/mls.h>
 #include <tls_codec/outcome.h>

@@ -6,8 +6,8 @@
 #include <stdio.h>
 #include <stdlib.h>
 #include <string.h>
-#include <tls_codec/mls_check.h>
-#include <tls_codec/tls13_check.h>
+#include <tls_codec/mls_decode.h>
+#include <tls_codec/tls13_decode.h>
 #include <tls_codec/all.h>
 
 typedef tls_codec_outcome message_call(const uint8_t *bytes, size_t length);

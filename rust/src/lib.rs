@@ -2,7 +2,7 @@
 //!
 //! The functions are proved, in Rattle, and linked as static libraries: bytes are accepted exactly if they begin with an encoding
 //! of the message, and what is accepted is the message's canonical encoding. `docs/CALLERS.md` of the repository says what is
-//! proved and what is trusted. The feature `check` adds the decoders, which make the value and drop it, and so allocate.
+//! proved and what is trusted. The feature `decode` adds the decoders, which make the value and drop it, and so allocate.
 //!
 //! ```
 //! use tls_codec_validators::{Error, Rejected, tls13};
@@ -31,8 +31,8 @@ mod exports;
 use core::fmt;
 pub use exports::{Error, lengths, mls, tls13};
 use exports::{Outcome, Span};
-#[cfg(feature = "check")]
-pub use exports::{mls_check, tls13_check};
+#[cfg(feature = "decode")]
+pub use exports::{mls_decode, tls13_decode};
 
 /// The version of these declarations, by `CHANGELOG.md` of the repository.
 pub const VERSION: &str = env!("CARGO_PKG_VERSION");

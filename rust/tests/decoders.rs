@@ -1,5 +1,5 @@
 //! Decoders: the rows, and beside the validators changed rows and random bytes, for three seconds or `TLS_CODEC_SECONDS`.
-#![cfg(feature = "check")]
+#![cfg(feature = "decode")]
 
 #[macro_use]
 mod common;
@@ -7,7 +7,7 @@ mod common;
 use common::{bytes_of, error_of};
 use std::time::{Duration, Instant};
 use std::{env, fs};
-use tls_codec_validators::{Error, Rejected, mls, mls_check, tls13, tls13_check};
+use tls_codec_validators::{Error, Rejected, mls, mls_decode, tls13, tls13_decode};
 
 /// The message that bytes begin with, and the rest.
 type Split<'a, E> = Result<(&'a [u8], &'a [u8]), E>;
@@ -131,9 +131,9 @@ fn each_row_is_decoded() {
 
 #[test]
 fn nothing_may_be_left() {
-    assert_eq!(tls13_check::decode_check_alert(&[1, 0]), Ok(()));
-    assert_eq!(tls13_check::decode_check_alert(&[1, 0, 7]), Err(Error::TrailingData));
-    assert_eq!(tls13_check::decode_check_alert_prefix(&[1, 0, 7]), Ok((&[1, 0][..], &[7][..])));
+    assert_eq!(tls13_decode::decode_check_alert(&[1, 0]), Ok(()));
+    assert_eq!(tls13_decode::decode_check_alert(&[1, 0, 7]), Err(Error::TrailingData));
+    assert_eq!(tls13_decode::decode_check_alert_prefix(&[1, 0, 7]), Ok((&[1, 0][..], &[7][..])));
 }
 
 /// That both accept the same bytes and take as many of them follows from their contracts. That they name one error is tested alone.

@@ -238,7 +238,7 @@ def libraries() -> list[str]:
 
 def decoders() -> list[str]:
     """Those that need a heap."""
-    return [it for it in libraries() if it.endswith("_check_c")]
+    return [it for it in libraries() if it.endswith("_decode_c")]
 
 
 def module_of(crate: str) -> str:

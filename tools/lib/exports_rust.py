@@ -164,7 +164,7 @@ def decoders_in_rust(crate: str) -> list[str]:
     text = about(crate).removesuffix(": `at` of `NAME_decode_check_prefix` is 0.")
     if text == about(crate):
         raise Failed(f"{crate}: its text ends in other words")
-    body = ["", f"/// {text}.", '#[cfg(feature = "check")]', f"pub mod {name} {{", "    use crate::{Error, split, whole};", ""]
+    body = ["", f"/// {text}.", '#[cfg(feature = "decode")]', f"pub mod {name} {{", "    use crate::{Error, split, whole};", ""]
     body += ["    mod foreign {", "        use crate::Outcome;", "", f'        #[link(name = "{linked(crate)}", kind = "static")]']
     body += ['        unsafe extern "C" {', *[f"            {line}" for it in exports for line in it.declaration()], "        }", "    }"]
     for it in exports:

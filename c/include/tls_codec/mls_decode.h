@@ -1,6 +1,6 @@
-/* Written by tools/check_exports.py from crates/mls_check_c/src. Don't edit. */
-#ifndef TLS_CODEC_MLS_CHECK_H
-#define TLS_CODEC_MLS_CHECK_H
+/* Written by tools/check_exports.py from crates/mls_decode_c/src. Don't edit. */
+#ifndef TLS_CODEC_MLS_DECODE_H
+#define TLS_CODEC_MLS_DECODE_H
 
 /* Checks whether bytes begin with a message of MLS: its decoder makes the value and drops it.
    `TLS_CODEC_OUT_OF_MEMORY`: memory was refused, and nothing is said about the bytes. The position
