@@ -1,5 +1,6 @@
 //! Worked values and rejected bytes.
 mod arrays;
+mod elements;
 mod elsewhere;
 mod held;
 mod key_packages;
