@@ -2,16 +2,15 @@
 ghost use Rattle.std.specs.Prelude.{ℕ};
 ghost use Rattle.tls_codec_grammar.specs.Contexts.{then_format};
 ghost use Rattle.tls_codec_grammar.specs.Format.{pair_format};
-ghost use Rattle.tls_codec_grammar.specs.Tree.{Tree};
 ghost use Rattle.tls_codec_grammar.specs.laws.FormatLaws.{pair_meets};
 ghost use Rattle.tls_codec_grammar.specs.laws.ThenLaws.{then_meets};
 ghost use Rattle.tls_codec_outcome.specs.Decided.{AreDecided, decided_ends};
-ghost use Rattle.tls_codec_outcome.specs.Fields.{BeginsAt, IsFieldFrom, span_end};
+ghost use Rattle.tls_codec_outcome.specs.Fields.{span_end};
 
-use crate::fields::{Span, bytes_from};
+use crate::fields::{Span, bytes_from, field_for};
 use crate::locate::Locate;
 use std::marker::PhantomData;
-use tls_codec_validate::{Keyed, ValidateFor, ValidateKeyed};
+use tls_codec_validate::{ValidateFor, ValidateKeyed};
 
 /// A part, and two after it whose form its value decides (RFC 8446, section 3.8).
 pub struct DependentFields<T, U, V> {
@@ -41,10 +40,7 @@ impl<T: ValidateKeyed, U: ValidateFor<T>, V: ValidateFor<T>> Locate for Dependen
                 ((first, second, third), third.end())
             }
             Err(_) => {
-                let nothing = Span {
-                    offset: from,
-                    size: 0,
-                };
+                let nothing = Span::empty(from);
                 ((nothing, nothing, nothing), from)
             }
         }
@@ -54,17 +50,4 @@ impl<T: ValidateKeyed, U: ValidateFor<T>, V: ValidateFor<T>> Locate for Dependen
 
     ghost ends = { λ x from places are. decided_ends T.format U.format_for V.format_for x from
         places.0 places.1 places.2 are };
-}
-
-// The field of this type at a place in each context that has the key, if one begins there.
-fn field_for<X: Keyed, T: ValidateFor<X>>(key: &X::Key, bytes: &[u8], from: usize) -> Span
-    ensures { (c : Tree) → X.is_key key.now c → BeginsAt (T.format_for c) bytes.now from
-        → IsFieldFrom (T.format_for c) bytes.now from result }
-{
-    let here = bytes_from(bytes, from);
-    let size = match T::tls_validate_prefix_for(key, here) {
-        Ok(rest) => here.len().saturating_sub(rest.len()),
-        Err(_) => 0,
-    };
-    Span { offset: from, size }
 }

@@ -1,10 +1,11 @@
 //! Where the fields of a message are.
 ghost use Rattle.std.specs.Prelude.{◌≡◌, ◌<◌, ◌^◌, drop};
 ghost use Rattle.tls_codec_grammar.specs.Format.{counted_bytes_format, number_format};
+ghost use Rattle.tls_codec_grammar.specs.Tree.{Tree};
 ghost use Rattle.tls_codec_outcome.specs.Fields.{BeginsAt, IsContentFrom, IsFieldFrom, IsTagAt, span_end};
 
-use tls_codec_base::{LengthField, opaque};
-use tls_codec_validate::{Validate, split_u16};
+use tls_codec_base::{Always, LengthField, opaque};
+use tls_codec_validate::{Keyed, Validate, ValidateFor, split_u16};
 
 /// A place in some bytes.
 #[repr(C)]
@@ -17,6 +18,14 @@ pub struct Span {
 }
 
 impl Span {
+    /// The place of nothing.
+    pub(crate) fn empty(offset: usize) -> Span
+        ensures offset { result.offset ≡ offset }
+        ensures size { result.size ≡ 0 }
+    {
+        Span { offset, size: 0 }
+    }
+
     /// The place after it.
     pub fn end(&self) -> usize
         ensures { span_end self.now < 2 ^ 64 → result ≡ span_end self.now }
@@ -29,8 +38,20 @@ impl Span {
 pub fn field_at<T: Validate>(bytes: &[u8], from: usize) -> Span
     ensures { BeginsAt T.format bytes.now from → IsFieldFrom T.format bytes.now from result }
 {
+    field_for::<(), Always<T>>(&(), bytes, from)
+}
+
+/// The field of this type at a place in each context that has the key, if one begins there.
+pub(crate) fn field_for<X: Keyed, T: ValidateFor<X>>(
+    key: &X::Key,
+    bytes: &[u8],
+    from: usize,
+) -> Span
+    ensures { (c : Tree) → X.is_key key.now c → BeginsAt (T.format_for c) bytes.now from
+        → IsFieldFrom (T.format_for c) bytes.now from result }
+{
     let here = bytes_from(bytes, from);
-    let size = match T::tls_validate_prefix(here) {
+    let size = match T::tls_validate_prefix_for(key, here) {
         Ok(rest) => here.len().saturating_sub(rest.len()),
         Err(_) => 0,
     };
@@ -50,10 +71,7 @@ pub fn content_at<F: LengthField>(bytes: &[u8], from: usize) -> Span
                 .saturating_sub(content.len()),
             size: content.len(),
         },
-        Err(_) => Span {
-            offset: from,
-            size: 0,
-        },
+        Err(_) => Span::empty(from),
     }
 }
 

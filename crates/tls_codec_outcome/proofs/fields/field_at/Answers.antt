@@ -1,4 +1,5 @@
+use Rattle.tls_codec_grammar.specs.Tree.{Empty}
 use Rattle.tls_codec_outcome.proofs.fields.field_at.Goals as goal
 
-pub returns-in-Err : goal.returns-in-Err
-returns-in-Err g c at = absurd (c.in-Err.ensures.validates.none at.begins.value at.begins.rest (rw c.bytes_from-here.ensures at.begins.begins))
+pub returns : goal.returns
+returns g c at = c.field_for.ensures Empty tt at
