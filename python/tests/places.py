@@ -7,7 +7,7 @@ from typing import Union
 
 sys.dont_write_bytecode = True
 sys.path.insert(0, str(pathlib.Path(__file__).resolve().parent.parent))
-from tls_codec import Rejected, Validators
+from tls_codec_validators import Rejected, Validators
 from tls_codec_exports import STATUSES, MlsWireFormat, Tls13HandshakeType, Tls13KeyUpdateRequest, Tls13SignatureScheme
 
 # What is found, and the numbers of what is rejected after it.

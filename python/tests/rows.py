@@ -10,7 +10,7 @@ from typing import Optional
 
 sys.dont_write_bytecode = True
 sys.path.insert(0, str(pathlib.Path(__file__).resolve().parent.parent))
-from tls_codec import Rejected, Span, Validators, varint_value
+from tls_codec_validators import Rejected, Span, Validators, varint_value
 from tls_codec_exports import FIELDS, STATUSES, WITH_LENGTH, MlsWireFormat
 
 Numbers = tuple[int, int, Optional[int], int]

@@ -11,7 +11,7 @@ import sys
 
 sys.dont_write_bytecode = True
 sys.path.insert(0, str(pathlib.Path(__file__).resolve().parent.parent))
-from tls_codec import Rejected, Validators
+from tls_codec_validators import Rejected, Validators
 
 # The message that each name has.
 MESSAGES = {
