@@ -71,7 +71,7 @@ impl Rounds {
                     round
                 },
             );
-            if self.is_last(*user) {
+            if self.settle_part(*user) {
                 ready.push(*user)?;
             }
         }
@@ -84,8 +84,8 @@ impl Rounds {
         }
     }
 
-    // Counts one part less, and returns whether none is left.
-    fn is_last(&mut self, at: usize) -> bool {
+    // A part of an item is settled. Returns whether it was the last one.
+    fn settle_part(&mut self, at: usize) -> bool {
         match self.left.get_mut(at) {
             Some(left) => {
                 *left = left.saturating_sub(1);
