@@ -6,7 +6,7 @@ import enum
 VERSION = "0.3.0"
 
 # What archives of this version and these headers have beside them.
-MARK = "0.3.0 7ef1e863f1021739"
+MARK = "0.3.0 92cded28729147bc"
 
 # The names of the statuses, by their numbers.
 STATUSES = [

@@ -180,7 +180,8 @@ pub mod lengths {
     }
 }
 
-/// Checks without allocation whether bytes begin with a message of TLS 1.3.
+/// Messages of TLS 1.3, without allocation: validates them, locates their fields, and takes the
+/// elements of lists one by one.
 pub mod tls13 {
     use crate::{Elements, Rejected, nothing_left, split, split_as, whole};
 
@@ -1300,7 +1301,8 @@ pub mod tls13_decode {
     }
 }
 
-/// Checks without allocation whether bytes begin with a message of MLS.
+/// Messages of MLS, without allocation: validates them, locates their fields, takes the elements of
+/// lists one by one, reads a message's wire format, and writes what is signed of it.
 pub mod mls {
     use crate::{Elements, Rejected, nothing_left, split, split_as, whole, written_as};
 

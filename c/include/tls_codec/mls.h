@@ -2,8 +2,9 @@
 #ifndef TLS_CODEC_MLS_H
 #define TLS_CODEC_MLS_H
 
-/* Checks without allocation whether bytes begin with a message of MLS. What holds for each call is
-   in outcome.h. */
+/* Messages of MLS, without allocation: validates them, locates their fields, takes the elements of
+   lists one by one, reads a message's wire format, and writes what is signed of it. What holds for
+   each call is in outcome.h. */
 
 #include "outcome.h"
 

@@ -25,7 +25,7 @@
 #define TLS_CODEC_VERSION_NUMBER 300
 
 /* The line that `tls_codec.version` beside archives of just these headers has. */
-#define TLS_CODEC_HEADERS "0.3.0 7ef1e863f1021739"
+#define TLS_CODEC_HEADERS "0.3.0 92cded28729147bc"
 
 /* A call's status. The numbers don't change. */
 enum tls_codec_status {

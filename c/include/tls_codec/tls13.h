@@ -2,8 +2,8 @@
 #ifndef TLS_CODEC_TLS13_H
 #define TLS_CODEC_TLS13_H
 
-/* Checks without allocation whether bytes begin with a message of TLS 1.3. What holds for each call
-   is in outcome.h. */
+/* Messages of TLS 1.3, without allocation: validates them, locates their fields, and takes the
+   elements of lists one by one. What holds for each call is in outcome.h. */
 
 #include "outcome.h"
 

@@ -1,4 +1,5 @@
-//! Checks without allocation whether bytes begin with a message of MLS.
+//! Messages of MLS, without allocation: validates them, locates their fields, takes the elements of lists one by one, reads a
+//! message's wire format, and writes what is signed of it.
 #![tactic(auto)]
 
 mod elements;

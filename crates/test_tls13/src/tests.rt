@@ -5,6 +5,7 @@ mod extensions;
 mod handshakes;
 mod hellos;
 mod inner;
+mod lists;
 mod names;
 mod records;
 mod sending;

@@ -1,4 +1,4 @@
-//! Checks without allocation whether bytes begin with a message of TLS 1.3.
+//! Messages of TLS 1.3, without allocation: validates them, locates their fields, and takes the elements of lists one by one.
 #![tactic(auto)]
 
 mod elements;

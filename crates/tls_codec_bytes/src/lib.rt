@@ -1,8 +1,7 @@
 //! Byte vectors after a length of one to four bytes (RFC 8446, section 3.4): `opaque` of TLS 1.3, such
 //! as `opaque session_id<0..32>`.
 //!
-//! Their bytes are moved in bulk. A declared length allocates nothing: memory is requested as the bytes
-//! come.
+//! Their bytes are moved in bulk. A declared length requests 4,096 bytes at most: more as the bytes come.
 //!
 //! - [`bytes`]: [`TlsByteVec`] and its own calls, under a name for each width.
 //! - [`coding`]: how it is written and read.

@@ -21,7 +21,7 @@ pub fn validate<T: Validate>(bytes: &[u8]) -> Outcome
         Ok(rest) => accepted(bytes, rest),
         Err(rejected) => Outcome {
             at: rejected.at(bytes),
-            ..refused(&rejected.error)
+            ..rejection(&rejected.error)
         },
     }
 }
@@ -37,7 +37,7 @@ pub fn decode_check<T: DeserializeBytes>(alloc: Global, bytes: &[u8]) -> Outcome
 {
     match T::tls_deserialize_bytes(alloc, bytes) {
         Ok((_value, rest)) => accepted(bytes, rest),
-        Err(error) => refused(&error),
+        Err(error) => rejection(&error),
     }
 }
 
@@ -59,7 +59,7 @@ fn accepted(bytes: &[u8], rest: &[u8]) -> Outcome
 
 // The answer for bytes with this error, without a place.
 #[inline(always)]
-fn refused(error: &Error) -> Outcome
+fn rejection(error: &Error) -> Outcome
     ensures status { result.status ≡ status_number error.now }
     ensures taken { result.taken ≡ 0 }
     ensures at { result.at ≡ 0 }

@@ -19,7 +19,7 @@ pub(super) static KEY_PACKAGE: [u8; 79] = [
     0, 1, 5, 0x61, 0x6c, 0x69, 0x63, 0x65, // credential: basic, identity
     2, 0, 1, // capabilities: versions
     4, 0, 1, 0x0a, 0x0a, // cipher_suites, the second unknown
-    2, 0, 3, // extensions
+    2, 0, 10, // extensions
     2, 0, 8, // proposals
     4, 0, 1, 0, 2, // credentials
     1, // leaf_node_source: key_package

@@ -10,13 +10,14 @@ use std::alloc::Global;
 use std::test::Fail;
 use tls_codec::{Error, Serialize, VLBytes};
 
-// What a client supports. It may list numbers that no registry has (section 13.5).
+// What a client supports. It may list numbers that no registry has (section 13.5), and lists what its extensions have
+// (section 7.2), but none of the default types.
 fn capabilities(alloc: Global) -> Result<Capabilities, Error> {
     let suite = CipherSuite::MLS_128_DHKEMX25519_AES128GCM_SHA256_ED25519;
     Ok(Capabilities {
         versions: [ProtocolVersion::MLS10].to_vec(alloc)?,
         cipher_suites: [suite, CipherSuite(0x0a0a)].to_vec(alloc)?,
-        extensions: [ExtensionType(3)].to_vec(alloc)?,
+        extensions: [ExtensionType(10)].to_vec(alloc)?,
         proposals: [ProposalType(8)].to_vec(alloc)?,
         credentials: [CredentialType::BASIC, CredentialType::X509].to_vec(alloc)?,
     })

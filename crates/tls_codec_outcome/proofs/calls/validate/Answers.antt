@@ -5,4 +5,4 @@ pub returns-in-Ok-clause-taken : goal.returns-in-Ok-clause-taken
 returns-in-Ok-clause-taken g c = takes g.T.Size.format c.in-Ok.ensures.validates.begins c.accepted.ensures.status c.accepted.ensures.taken
 
 pub returns-in-Err-clause-status : goal.returns-in-Err-clause-status
-returns-in-Err-clause-status g c = decides_rejected g.T.Size.format c.in-Err.ensures.validates c.refused.ensures.status
+returns-in-Err-clause-status g c = decides_rejected g.T.Size.format c.in-Err.ensures.validates c.rejection.ensures.status
