@@ -8,7 +8,6 @@ use crate::kinds::{Kind, Named, PROTOCOLS, Protocol, kind_of, recognised};
 use crate::notation::{Notation, NotationError, bytes_of};
 use crate::show::PrintOptions;
 use crate::texts::definitions;
-use crate::walk::definitions::name_of;
 use clap::ArgMatches;
 use std::alloc::{AllocError, Global};
 use std::env::Env;
@@ -250,7 +249,7 @@ fn list(alloc: Global) -> Result<String, AllocError> {
 
 // Adds a definition if it is a type.
 fn push_type(out: &mut String, protocol: Protocol, item: &Item) -> Result<(), AllocError> {
-    let name = name_of(item);
+    let name = item.name();
     if protocol.has(name.text.as_str()) {
         writeln!(
             out,

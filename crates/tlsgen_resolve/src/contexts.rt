@@ -14,7 +14,7 @@ use std::alloc::{AllocError, Global};
 use tlsgen_model::names::field_name;
 use tlsgen_model::plan::{Context, Element};
 use tlsgen_syntax::refusal::Trouble;
-use tlsgen_syntax::syntax::{Field, Item, Name, Part, Select, Struct};
+use tlsgen_syntax::syntax::{Field, Item, Name, Select, Struct};
 
 /// A tag that isn't in the struct: its name, and its type.
 #[derive(Clone, Copy)]
@@ -129,7 +129,7 @@ fn struct_on_path<'a>(scope: Scope<'a>, words: &[Name]) -> Option<&'a Struct> {
     let (head, fields) = words.split_first()?;
     let mut one = find_struct(scope, head.text.as_str())?;
     for word in fields {
-        let field = field_of(one, word)?;
+        let field = one.field(word)?;
         one = find_struct(scope, field.of.text.as_str())?;
     }
     Some(one)
@@ -141,17 +141,10 @@ fn tag_in<'a>(
     one: &'a Struct,
     name: &Name,
 ) -> Result<Option<Tag<'a>>, Trouble> {
-    match field_of(one, name) {
+    match one.field(name) {
         Some(field) => find_tag(alloc, scope, field),
         None => Ok(None),
     }
-}
-
-fn field_of<'a>(one: &'a Struct, name: &Name) -> Option<&'a Field> {
-    one.parts.iter().find_map(|part| match part {
-        Part::Field(field) if field.name.text == name.text => Some(field),
-        _ => None,
-    })
 }
 
 fn enum_tag<'a>(alloc: Global, scope: Scope<'a>, name: &Name) -> Result<Option<Tag<'a>>, Trouble> {

@@ -1,5 +1,4 @@
 //! The names of all crates' definitions, and which definition a name means.
-use crate::items::item_name;
 use crate::naming::type_name;
 use std::alloc::{AllocError, Global};
 use std::collections::BTreeMap;
@@ -59,7 +58,7 @@ impl Definitions {
     }
 
     fn add_home(&mut self, alloc: Global, file: usize, item: &Item) -> Result<(), AllocError> {
-        let name = type_name(alloc, item_name(item).text.as_str())?;
+        let name = type_name(alloc, item.name().text.as_str())?;
         if let Some(homes) = self.homes.get_mut(&name) {
             if homes.last() != Some(&file) {
                 homes.push(file)?;
@@ -72,7 +71,7 @@ impl Definitions {
 
     // Whether another crate has the name in Rust of an item.
     fn is_shared(&self, alloc: Global, item: &Item) -> Result<bool, AllocError> {
-        let name = type_name(alloc, item_name(item).text.as_str())?;
+        let name = type_name(alloc, item.name().text.as_str())?;
         Ok(self.homes.get(&name).is_some_and(|homes| homes.len() > 1))
     }
 
@@ -83,7 +82,7 @@ impl Definitions {
         is_last: bool,
         item: &Item,
     ) -> Result<(), AllocError> {
-        let text = &item_name(item).text;
+        let text = &item.name().text;
         let hidden = if !is_last && self.is_shared(alloc, item)? {
             Some(self.unused(alloc, text.as_str(), file)?)
         } else {

@@ -3,28 +3,10 @@ ghost use Rattle.std.specs.Prelude.{IfSome, IsTrue};
 ghost use Rattle.tlsgen_model.specs.Types.{is_integer_width};
 
 use crate::scope::Scope;
-use tlsgen_syntax::syntax::{Field, Item, Name, Struct, Vector};
+use tlsgen_syntax::syntax::{Field, Item, Struct, Vector};
 
 /// The most items of all files.
 pub const MAX_ITEMS: usize = 100_000;
-
-/// The name of an item.
-pub fn item_name(item: &Item) -> &Name {
-    match item {
-        Item::Enum(one) => &one.name,
-        Item::Struct(one) => &one.name,
-        Item::Alias(field) => &field.name,
-    }
-}
-
-/// The name of an item, which may be changed.
-pub fn item_name_mut(item: &mut Item) -> &mut Name {
-    match item {
-        Item::Enum(one) => &mut one.name,
-        Item::Struct(one) => &mut one.name,
-        Item::Alias(field) => &mut field.name,
-    }
-}
 
 /// The item of this name, in whichever file it is.
 pub fn find<'a>(scope: Scope<'a>, name: &str) -> Option<&'a Item> {

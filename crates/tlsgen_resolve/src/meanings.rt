@@ -1,6 +1,5 @@
 //! Replaces each name of a text that means a definition by the one spelling of that definition.
 use crate::definitions::{Definitions, Meaning};
-use crate::items::item_name_mut;
 use crate::refuse::refused;
 use std::alloc::Global;
 use tlsgen_syntax::refusal::Trouble;
@@ -20,7 +19,7 @@ pub fn settle(
         at,
     };
     for item in &mut file.items {
-        settling.definition(item_name_mut(item))?;
+        settling.definition(item.name_mut())?;
         settling.item(item)?;
     }
     Ok(())

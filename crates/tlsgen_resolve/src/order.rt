@@ -1,5 +1,4 @@
 //! The order in which a file's items are settled: each after all that it contains.
-use crate::items::item_name;
 use crate::refuse::refused;
 use crate::scope::Scope;
 use std::alloc::{AllocError, Global};
@@ -144,7 +143,7 @@ fn refused_circle(
     let at = on_a_circle(needs, left, first);
     match file.items.get(at) {
         Some(item) => {
-            let name = item_name(item);
+            let name = item.name();
             refused(
                 alloc,
                 name.place,

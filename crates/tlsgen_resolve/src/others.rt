@@ -1,5 +1,4 @@
 //! What a file has of other crates, and which enums are written.
-use crate::items::item_name;
 use crate::members::copy_type;
 use crate::naming::type_name;
 use crate::output::Output;
@@ -102,7 +101,7 @@ fn refused_shared(alloc: Global, file: &File, name: &String) -> Trouble {
     match file.items.first() {
         Some(item) => refused(
             alloc,
-            item_name(item).place,
+            item.name().place,
             name.as_str(),
             "no tag of another crate whose type has a name that this text, or a third crate, has too",
         ),

@@ -7,7 +7,7 @@ use crate::checks::{check_letters, type_module};
 use crate::counted::counted_type;
 use crate::definitions::Definitions;
 use crate::held::{PlacedTag, member_name};
-use crate::items::{MAX_ITEMS, item_name};
+use crate::items::MAX_ITEMS;
 use crate::known::{Known, needs_outer_tag, sequence_named};
 use crate::members::ResolvedMember;
 use crate::naming::{definition_doc, type_name};
@@ -69,7 +69,7 @@ impl<'a> Resolver<'a> {
     /// Keeps the modules of a file's items. Rejects a name that can't be written, and one that is given twice.
     pub fn add_modules(&mut self, file: &File) -> Result<(), Trouble> {
         for item in &file.items {
-            self.add_module(item_name(item))?;
+            self.add_module(item.name())?;
         }
         Ok(())
     }

@@ -1,5 +1,5 @@
 //! The definitions that a file may name, found by their names.
-use crate::items::{is_single, item_name};
+use crate::items::is_single;
 use std::alloc::{AllocError, Global};
 use std::collections::BTreeMap;
 use tlsgen_model::names::module_name;
@@ -56,7 +56,7 @@ impl Index {
 
     // The first of a name stays: `add_modules` rejects another.
     fn add(&mut self, alloc: Global, item: &Item, at: Position) -> Result<(), AllocError> {
-        let name = item_name(item).text.as_str();
+        let name = item.name().text.as_str();
         if !self.by_name.contains_key(name) {
             self.by_name.insert(String::from_str(alloc, name)?, at)?;
         }
@@ -72,10 +72,10 @@ impl Index {
         let mut way = Vec::new(alloc);
         let mut at = item;
         for _ in 0..self.by_name.len() {
-            if self.last.contains_key(item_name(at).text.as_str()) {
+            if self.last.contains_key(at.name().text.as_str()) {
                 break;
             }
-            way.push(item_name(at))?;
+            way.push(at.name())?;
             match self.next(files, at) {
                 Some(next) => at = next,
                 None => break,
@@ -91,7 +91,7 @@ impl Index {
     }
 
     fn end_at(&self, item: &Item) -> Option<Position> {
-        let name = item_name(item).text.as_str();
+        let name = item.name().text.as_str();
         match self.last.get(name) {
             Some(last) => Some(*last),
             None => self.by_name.get(name).copied(),

@@ -3,7 +3,7 @@ ghost use Rattle.std.specs.Prelude.{◌≡◌, OnOk};
 
 use crate::refusal::Trouble;
 use crate::registry::name_values;
-use crate::syntax::{Enum, File, Item, Name, Note, Said, Struct};
+use crate::syntax::{Enum, File, Item, Note, Said, Struct};
 use std::alloc::{AllocError, Global};
 use std::collections::{BTreeMap, BTreeSet};
 
@@ -33,7 +33,7 @@ pub fn apply(alloc: Global, file: &mut File, notes: Vec<Note>) -> Result<(), Tro
         }
     }
     file.items
-        .retain(|item| !noted.left_out.contains(&name_of(item).text));
+        .retain(|item| !noted.left_out.contains(&item.name().text));
     file.notes = notes;
     Ok(())
 }
@@ -108,21 +108,12 @@ impl Noted {
 pub(crate) fn positions(alloc: Global, file: &File) -> Result<BTreeMap<String, usize>, AllocError> {
     let mut by_name = BTreeMap::new(alloc);
     for (at, item) in file.items.iter().enumerate() {
-        let name = &name_of(item).text;
+        let name = &item.name().text;
         if !by_name.contains_key(name) {
             by_name.insert(name.clone()?, at)?;
         }
     }
     Ok(by_name)
-}
-
-/// The name of a definition.
-pub(crate) fn name_of(item: &Item) -> &Name {
-    match item {
-        Item::Enum(one) => &one.name,
-        Item::Struct(one) => &one.name,
-        Item::Alias(field) => &field.name,
-    }
 }
 
 /// The error for a rejected note. A note that was read has a path; one without is `Inconsistent`.

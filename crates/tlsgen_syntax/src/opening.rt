@@ -1,6 +1,5 @@
 //! Which enums keep numbers without a name: those that no select is on (RFC 8446, section 3.5).
 
-use crate::noted::name_of;
 use crate::syntax::{Field, File, Item, Name, Part, Select, Struct};
 use std::alloc::{AllocError, Global};
 use std::collections::BTreeMap;
@@ -70,7 +69,7 @@ impl<'a> Named<'a> {
 
     // The first of a name stays.
     fn add(&mut self, alloc: Global, item: &Item, at: usize) -> Result<(), AllocError> {
-        let name = &name_of(item).text;
+        let name = &item.name().text;
         if !self.by_name.contains_key(name) {
             self.by_name.insert(name.clone()?, at)?;
         }
@@ -172,7 +171,7 @@ fn tag_of<'a>(
     let Some((last, words)) = select.path.split_last() else {
         return Ok(None);
     };
-    match struct_on_path(named, one, words).and_then(|one| field_of(one, last)) {
+    match struct_on_path(named, one, words).and_then(|one| one.field(last)) {
         Some(field) => Ok(named.enum_of_type(&field.of)),
         None if words.is_empty() => {
             let small = in_small_letters(alloc, last.text.as_str())?;
@@ -189,17 +188,10 @@ fn struct_on_path<'a>(named: &Named<'a>, one: &'a Struct, words: &[Name]) -> Opt
     };
     let mut one = named.struct_of(head)?;
     for word in fields {
-        let field = field_of(one, word)?;
+        let field = one.field(word)?;
         one = named.struct_of(&field.of)?;
     }
     Some(one)
-}
-
-fn field_of<'a>(one: &'a Struct, name: &Name) -> Option<&'a Field> {
-    one.parts.iter().find_map(|part| match part {
-        Part::Field(field) if field.name.text == name.text => Some(field),
-        _ => None,
-    })
 }
 
 // A name in small letters, without what is between two words.

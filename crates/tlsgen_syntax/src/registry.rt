@@ -1,7 +1,7 @@
 //! Enums by the notes: integers whose values a registry names, as `uint16 CredentialType;` (RFC 9420, section 17.5), and tags
 //! that nothing defines, as `select (ClientOrServerExtension)` has (RFC 7250, section 3).
 
-use crate::noted::{name_of, positions, refused};
+use crate::noted::{positions, refused};
 use crate::refusal::Trouble;
 use crate::syntax::{Enum, Field, File, Item, Name, Note, Number, Part, Said, Value, Vector};
 use std::alloc::{AllocError, Global};

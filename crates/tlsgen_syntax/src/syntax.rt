@@ -83,6 +83,26 @@ pub enum Item {
     Alias(Field),
 }
 
+impl Item {
+    /// The name that it defines.
+    pub fn name(&self) -> &Name {
+        match self {
+            Item::Enum(one) => &one.name,
+            Item::Struct(one) => &one.name,
+            Item::Alias(field) => &field.name,
+        }
+    }
+
+    /// The name that it defines, which may be changed.
+    pub fn name_mut(&mut self) -> &mut Name {
+        match self {
+            Item::Enum(one) => &mut one.name,
+            Item::Struct(one) => &mut one.name,
+            Item::Alias(field) => &mut field.name,
+        }
+    }
+}
+
 /// Numbers with names. In an open one numbers without a name are kept too: it is `open enum { .. }`, or no select is on it
 /// (RFC 8446, section 3.5), unless the notes say otherwise.
 #[derive(Drop)]
@@ -117,6 +137,16 @@ pub struct Struct {
     pub is_borrowed: bool,
     pub parts: Vec<Part>,
     pub name: Name,
+}
+
+impl Struct {
+    /// Its field of this name, the first of two. Those of its selects' cases don't count.
+    pub fn field(&self, name: &Name) -> Option<&Field> {
+        self.parts.iter().find_map(|part| match part {
+            Part::Field(field) if field.name.text == name.text => Some(field),
+            _ => None,
+        })
+    }
 }
 
 #[derive(Drop)]

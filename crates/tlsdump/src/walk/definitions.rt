@@ -5,7 +5,7 @@ use std::collections::BTreeMap;
 use tlsgen_syntax::noted::apply;
 use tlsgen_syntax::parser::{parse, parse_notes};
 use tlsgen_syntax::refusal::Trouble;
-use tlsgen_syntax::syntax::{Enum, Field, File, Item, Name, Note, Said, Struct, Value};
+use tlsgen_syntax::syntax::{Enum, Field, File, Item, Note, Said, Struct, Value};
 
 /// The definitions of some texts, by their names. If two have the same name, the first one counts.
 #[derive(Drop)]
@@ -50,7 +50,7 @@ impl Definitions {
     fn enter(&mut self, file: &File) -> Result<(), AllocError> {
         let at = self.files.len();
         for (position, item) in file.items.iter().enumerate() {
-            let name = name_of(item);
+            let name = item.name();
             if !self.by_name.contains_key(&name.text) {
                 self.by_name.insert(name.text.clone()?, (at, position))?;
             }
@@ -111,15 +111,6 @@ fn is_of(note: &Note, owner: &str, field: &str) -> bool {
     match note.path.as_slice() {
         [of, name] => of.text.as_str() == owner && name.text.as_str() == field,
         _ => false,
-    }
-}
-
-/// The name of a definition.
-pub fn name_of(item: &Item) -> &Name {
-    match item {
-        Item::Enum(one) => &one.name,
-        Item::Struct(one) => &one.name,
-        Item::Alias(field) => &field.name,
     }
 }
 
