@@ -166,8 +166,7 @@ fn empty_vectors(alloc: Global, count: usize) -> Result<(Vec<VLBytes>, Vec<u8>),
 fn empty_vectors_are_written(rt: HostRuntime) -> Result<(), Fail> {
     let alloc = rt.alloc();
     for size in sizes_to(alloc, 65_536)? {
-        let made = empty_vectors(alloc, size)?;
-        let (list, form) = made;
+        let (list, form) = empty_vectors(alloc, size)?;
         expect_written_alone(&rt, alloc, &list, &form)?;
     }
     Ok(())
@@ -177,8 +176,7 @@ fn empty_vectors_are_written(rt: HostRuntime) -> Result<(), Fail> {
 fn empty_vectors_are_read(rt: HostRuntime) -> Result<(), Fail> {
     let alloc = rt.alloc();
     for size in sizes_to(alloc, 65_536)? {
-        let made = empty_vectors(alloc, size)?;
-        let (list, form) = made;
+        let (list, form) = empty_vectors(alloc, size)?;
         expect_read_back(&rt, alloc, &list, &form)?;
     }
     Ok(())
@@ -187,8 +185,7 @@ fn empty_vectors_are_read(rt: HostRuntime) -> Result<(), Fail> {
 // The greatest list of them, by one call a test, since each takes long.
 #[test]
 fn many_empty_vectors_are_sent(rt: HostRuntime) -> Result<(), Fail> {
-    let made = empty_vectors(rt.alloc(), GREATEST)?;
-    let (list, form) = made;
+    let (list, form) = empty_vectors(rt.alloc(), GREATEST)?;
     let mut received = Vec::new(rt.alloc());
     same(&rt, list.tls_serialize(&mut received)?, form.len());
     holds(&rt, received == form);
@@ -197,8 +194,7 @@ fn many_empty_vectors_are_sent(rt: HostRuntime) -> Result<(), Fail> {
 
 #[test]
 fn many_empty_vectors_are_appended(rt: HostRuntime) -> Result<(), Fail> {
-    let made = empty_vectors(rt.alloc(), GREATEST)?;
-    let (list, form) = made;
+    let (list, form) = empty_vectors(rt.alloc(), GREATEST)?;
     let mut out = Vec::new(rt.alloc());
     same(&rt, list.tls_serialize_into(&mut out)?, form.len());
     holds(&rt, out == form);
@@ -207,24 +203,21 @@ fn many_empty_vectors_are_appended(rt: HostRuntime) -> Result<(), Fail> {
 
 #[test]
 fn many_empty_vectors_are_detached(rt: HostRuntime) -> Result<(), Fail> {
-    let made = empty_vectors(rt.alloc(), GREATEST)?;
-    let (list, form) = made;
+    let (list, form) = empty_vectors(rt.alloc(), GREATEST)?;
     holds(&rt, list.tls_serialize_detached(rt.alloc())? == form);
     Ok(())
 }
 
 #[test]
 fn many_empty_vectors_are_a_vector(rt: HostRuntime) -> Result<(), Fail> {
-    let made = empty_vectors(rt.alloc(), GREATEST)?;
-    let (list, form) = made;
+    let (list, form) = empty_vectors(rt.alloc(), GREATEST)?;
     holds(&rt, list.tls_serialize_bytes(rt.alloc())? == form);
     Ok(())
 }
 
 #[test]
 fn many_empty_vectors_are_split(rt: HostRuntime) -> Result<(), Fail> {
-    let made = empty_vectors(rt.alloc(), GREATEST)?;
-    let (list, form) = made;
+    let (list, form) = empty_vectors(rt.alloc(), GREATEST)?;
     let found = <Vec<VLBytes>>::tls_deserialize_exact_bytes(rt.alloc(), &form)?;
     holds(&rt, found == list);
     Ok(())
@@ -232,8 +225,7 @@ fn many_empty_vectors_are_split(rt: HostRuntime) -> Result<(), Fail> {
 
 #[test]
 fn many_empty_vectors_are_read(rt: HostRuntime) -> Result<(), Fail> {
-    let made = empty_vectors(rt.alloc(), GREATEST)?;
-    let (list, form) = made;
+    let (list, form) = empty_vectors(rt.alloc(), GREATEST)?;
     let found = <Vec<VLBytes>>::tls_deserialize_exact(rt.alloc(), &form)?;
     holds(&rt, found == list);
     Ok(())
