@@ -29,7 +29,7 @@ use std::test::Fail;
 use tlsgen_model::plan::Plan;
 use tlsgen_resolve::planning::plan_of;
 use tlsgen_syntax::parser::parse;
-use tlsgen_syntax::refusal::{Refusal, Trouble};
+use tlsgen_syntax::rejection::{Rejection, Trouble};
 
 // An assertion that is written out is proved at each place: this one is proved once.
 fn same<T: PartialEq + Debug + Drop>(rt: &impl Abort, found: T, expected: T) {
@@ -46,9 +46,9 @@ fn same_at<Row: Debug + Drop, T: PartialEq + Debug + Drop>(
     assert_eq!(rt; found, expected, "at {row:?}");
 }
 
-// A refusal that has this word in what it expects.
-fn expect_in_refusal(rt: &impl Abort, refusal: &Refusal, word: &str) {
-    assert!(rt; refusal.expected.contains(word), "{refusal}");
+// A rejection that has this word in what it expects.
+fn expect_in_rejection(rt: &impl Abort, rejection: &Rejection, word: &str) {
+    assert!(rt; rejection.expected.contains(word), "{rejection}");
 }
 
 fn plan(alloc: Global, text: &str) -> Result<Plan, Trouble> {
@@ -59,16 +59,16 @@ fn plan(alloc: Global, text: &str) -> Result<Plan, Trouble> {
 fn made(rt: &impl Abort, alloc: Global, text: &str) -> Plan {
     match plan(alloc, text) {
         Ok(plan) => plan,
-        Err(Trouble::Refused(refusal)) => panic!(rt; "{refusal}"),
+        Err(Trouble::Rejected(rejection)) => panic!(rt; "{rejection}"),
         Err(Trouble::Memory) => panic!(rt; "out of memory"),
         Err(Trouble::Inconsistent) => panic!(rt; "a fault of tlsgen"),
     }
 }
 
-fn refusal(rt: &impl Abort, alloc: Global, text: &str) -> Refusal {
+fn rejection(rt: &impl Abort, alloc: Global, text: &str) -> Rejection {
     match plan(alloc, text) {
-        Ok(_) => panic!(rt; "not refused: {text}"),
-        Err(Trouble::Refused(refusal)) => refusal,
+        Ok(_) => panic!(rt; "not rejected: {text}"),
+        Err(Trouble::Rejected(rejection)) => rejection,
         Err(Trouble::Memory) => panic!(rt; "out of memory"),
         Err(Trouble::Inconsistent) => panic!(rt; "a fault of tlsgen"),
     }
@@ -79,11 +79,11 @@ type Rejected = (&'static str, usize, usize, &'static str, &'static str);
 
 fn expect_rejected(rt: &impl Abort, alloc: Global, rows: &[Rejected]) {
     for (text, line, column, found, word) in rows {
-        let refusal = refusal(rt, alloc, text);
-        same_at(rt, *text, refusal.found.as_str(), *found);
-        assert!(rt; refusal.expected.contains(*word), "{text}: {refusal}");
-        same_at(rt, *text, refusal.place.line, *line);
-        same_at(rt, *text, refusal.place.column, *column);
+        let rejection = rejection(rt, alloc, text);
+        same_at(rt, *text, rejection.found.as_str(), *found);
+        assert!(rt; rejection.expected.contains(*word), "{text}: {rejection}");
+        same_at(rt, *text, rejection.place.line, *line);
+        same_at(rt, *text, rejection.place.column, *column);
     }
 }
 

@@ -9,7 +9,7 @@ mod of_tls13;
 use crate::kinds::Protocol;
 use crate::walk::definitions::Definitions;
 use std::alloc::Global;
-use tlsgen_syntax::refusal::Trouble;
+use tlsgen_syntax::rejection::Trouble;
 
 // Two types that the RFCs' texts lack: the data of `application_id` (RFC 9420, section 5.3.3), and the
 // messages of a record (RFC 8446, section 5.1). The walk opens such bytes.

@@ -27,10 +27,10 @@ use texts::Texts;
 use tlsgen_emit::file::files_of;
 use tlsgen_model::names::is_crate_name;
 use tlsgen_model::plan::Plan;
-use tlsgen_syntax::refusal::Trouble;
+use tlsgen_syntax::rejection::Trouble;
 
 // The status after a text that is rejected, and after words that aren't understood.
-const REFUSED: u8 = 2;
+const REJECTED: u8 = 2;
 
 fn main(rt: HostRuntime) -> anyhow::Result<ExitCode> {
     let alloc = rt.alloc();
@@ -44,7 +44,7 @@ fn main(rt: HostRuntime) -> anyhow::Result<ExitCode> {
     };
     let mut texts = Texts::new(alloc);
     let Some(plan) = planned(&rt, &mut texts, &matches)? else {
-        return Ok(ExitCode::from(REFUSED));
+        return Ok(ExitCode::from(REJECTED));
     };
     let written = files_of(
         alloc,
@@ -200,7 +200,7 @@ fn plan<R: Eprint + AllocGlobal>(rt: &R, texts: &mut Texts) -> anyhow::Result<Op
 
 fn print_trouble<R: Eprint>(rt: &R, path: &str, trouble: Trouble) -> anyhow::Result<()> {
     match trouble {
-        Trouble::Refused(refusal) => eprintln!(rt; "{path}: {refusal}")?,
+        Trouble::Rejected(rejection) => eprintln!(rt; "{path}: {rejection}")?,
         Trouble::Memory => eprintln!(rt; "{path}: out of memory")?,
         Trouble::Inconsistent => {
             eprintln!(rt; "{path}: a fault of tlsgen, not of this text; please report it")?;

@@ -6,7 +6,7 @@ use tlsgen_resolve::plan_of;
 use tlsgen_resolve::planning::PlanError;
 use tlsgen_syntax::noted::apply;
 use tlsgen_syntax::parser::{parse, parse_notes};
-use tlsgen_syntax::refusal::Trouble;
+use tlsgen_syntax::rejection::Trouble;
 use tlsgen_syntax::syntax::File;
 
 /// What texts say that were read one after another.

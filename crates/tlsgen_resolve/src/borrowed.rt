@@ -1,10 +1,10 @@
 //! Borrowed structs: which messages have references, and how many runs of fields they may have.
-use crate::refuse::refused;
+use crate::reject::rejected;
 use crate::resolver::Resolver;
 use crate::sequence::Sequence;
 use tlsgen_model::borrowed::runs_of;
 use tlsgen_model::plan::{Body, Element, Member};
-use tlsgen_syntax::refusal::Trouble;
+use tlsgen_syntax::rejection::Trouble;
 
 // The most runs of a struct.
 const MAX_RUNS: usize = 3;
@@ -50,7 +50,7 @@ impl<'a> Resolver<'a> {
             are_borrowed.push(self.is_borrowed(field))?;
         }
         if are_borrowed.contains(&true) && runs_of(self.alloc, &are_borrowed)?.len() > most {
-            return Err(refused(
+            return Err(rejected(
                 self.alloc,
                 sequence.place,
                 sequence.name,

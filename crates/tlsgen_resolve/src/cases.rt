@@ -4,13 +4,13 @@ ghost use Rattle.std.specs.List.{list_any};
 ghost use Rattle.tlsgen_syntax.specs.declared.syntax.Label.TheVariants as labels;
 ghost use Rattle.tlsgen_resolve.specs.Cases.{AppendsLabelled, HasValue, IsNumberOf};
 
-use crate::checks::{TOO_GREAT, enum_width, named, refused_number};
+use crate::checks::{TOO_GREAT, enum_width, named, rejected_number};
 use crate::items::{find, integer_width, is_single};
-use crate::refuse::{Budget, refused};
+use crate::reject::{Budget, rejected};
 use crate::scope::Scope;
 use std::alloc::Global;
 use tlsgen_model::width::Width;
-use tlsgen_syntax::refusal::{Place, Trouble};
+use tlsgen_syntax::rejection::{Place, Trouble};
 use tlsgen_syntax::syntax::{Case, Enum, Field, Item, Label, Name, Number, Select};
 
 /// The type of a tag: a number of 1, 2, 4 or 8 bytes, which may have names.
@@ -34,7 +34,7 @@ pub struct Labelled<'a> {
 pub fn tag_of<'a>(alloc: Global, scope: Scope<'a>, field: &'a Field) -> Result<Tag<'a>, Trouble> {
     match find_tag(alloc, scope, field)? {
         Some(tag) => Ok(tag),
-        None => Err(refused(
+        None => Err(rejected(
             alloc,
             field.of.place,
             field.of.text.as_str(),
@@ -85,7 +85,7 @@ pub fn cases_of<'a>(
         push_labels(alloc, tag, case, &mut cases, budget)?;
     }
     if cases.is_empty() {
-        return Err(refused(
+        return Err(rejected(
             alloc,
             select.place,
             "select",
@@ -147,7 +147,7 @@ fn number_of(alloc: Global, tag: Tag<'_>, name: &Name) -> Result<u64, Trouble>
 {
     let text = name.text.as_str();
     let Some(one) = tag.of else {
-        return Err(refused(
+        return Err(rejected(
             alloc,
             name.place,
             text,
@@ -156,7 +156,7 @@ fn number_of(alloc: Global, tag: Tag<'_>, name: &Name) -> Result<u64, Trouble>
     };
     match find_number(one, text) {
         Some(number) => Ok(number),
-        None => Err(refused(alloc, name.place, text, "a value of the tag's enum")),
+        None => Err(rejected(alloc, name.place, text, "a value of the tag's enum")),
     }
 }
 
@@ -175,13 +175,13 @@ fn find_number(one: &Enum, text: &str) -> Option<u64>
 
 fn name_of(alloc: Global, tag: Tag<'_>, number: Number) -> Result<String, Trouble> {
     if !tag.width.holds(number.value) {
-        return Err(refused_number(alloc, number, TOO_GREAT));
+        return Err(rejected_number(alloc, number, TOO_GREAT));
     }
     match tag.of {
         Some(one) => match find_name(one, number.value) {
             Some(name) => Ok(name.text.clone()?),
             None if one.is_open => case_name(alloc, number),
-            None => Err(refused_number(alloc, number, "a value of the tag's enum")),
+            None => Err(rejected_number(alloc, number, "a value of the tag's enum")),
         },
         None => case_name(alloc, number),
     }

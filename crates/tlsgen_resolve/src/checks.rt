@@ -4,14 +4,14 @@ ghost use Rattle.tlsgen_resolve.specs.Cases.{IsNamed, numbers_of};
 ghost use Rattle.tlsgen_model.specs.Writable.{IsWritable};
 
 use crate::naming::{type_name, underscored};
-use crate::refuse::refused;
+use crate::reject::rejected;
 use std::alloc::Global;
 use tlsgen_model::lists::{Unfit, ValueList};
 use tlsgen_model::names::{constant_name, module_name, variant_name};
 use tlsgen_model::plan;
 use tlsgen_model::plan::Body;
 use tlsgen_model::width::{Width, bytes_for};
-use tlsgen_syntax::refusal::Trouble;
+use tlsgen_syntax::rejection::Trouble;
 use tlsgen_syntax::syntax::{Enum, Name, Number, Value};
 
 // The most values of an enum: names are compared each with each.
@@ -34,7 +34,7 @@ pub fn check_letters(alloc: Global, name: &Name) -> Result<(), Trouble> {
         .first()
         .is_some_and(|first| first.is_ascii_alphabetic())
     {
-        return Err(refused(
+        return Err(rejected(
             alloc,
             name.place,
             name.text.as_str(),
@@ -58,7 +58,7 @@ fn check_value_letters(alloc: Global, name: &Name) -> Result<(), Trouble> {
 fn check_signs(alloc: Global, name: &Name) -> Result<(), Trouble> {
     let bytes = name.text.as_bytes();
     if !bytes.iter().all(|byte| byte.is_ascii_alphanumeric() || *byte == b'_' || *byte == b'.') {
-        return Err(refused(
+        return Err(rejected(
             alloc,
             name.place,
             name.text.as_str(),
@@ -72,7 +72,7 @@ fn check_signs(alloc: Global, name: &Name) -> Result<(), Trouble> {
 pub fn enum_width(alloc: Global, one: &Enum) -> Result<Width, Trouble> {
     let name = &one.name;
     let Some(bytes) = bytes_for(greatest(one)) else {
-        return Err(refused(
+        return Err(rejected(
             alloc,
             name.place,
             name.text.as_str(),
@@ -81,7 +81,7 @@ pub fn enum_width(alloc: Global, one: &Enum) -> Result<Width, Trouble> {
     };
     match Width::new(bytes) {
         Some(width) => Ok(width),
-        None => Err(refused(
+        None => Err(rejected(
             alloc,
             name.place,
             name.text.as_str(),
@@ -131,10 +131,10 @@ fn check_range(alloc: Global, width: Width, value: &Value) -> Result<(), Trouble
         return Ok(());
     };
     if last.value < value.number.value {
-        return Err(refused_number(alloc, last, "a range that doesn't end before it begins"));
+        return Err(rejected_number(alloc, last, "a range that doesn't end before it begins"));
     }
     if value.name.is_some() && !width.holds(last.value) {
-        return Err(refused_number(alloc, last, TOO_GREAT));
+        return Err(rejected_number(alloc, last, TOO_GREAT));
     }
     Ok(())
 }
@@ -151,7 +151,7 @@ fn push_value(
     let text = name.text.as_str();
     check_value_letters(alloc, name)?;
     if values.len() >= MAX_VALUES {
-        return Err(refused(alloc, name.place, text, "at most 1024 values"));
+        return Err(rejected(alloc, name.place, text, "at most 1024 values"));
     }
     let spelled = underscored(alloc, text)?;
     let value = plan::Value {
@@ -163,13 +163,13 @@ fn push_value(
     };
     match values.push(value)? {
         None => Ok(()),
-        Some(Unfit::TooGreat) => Err(refused_number(alloc, number, TOO_GREAT)),
-        Some(Unfit::SameNumber) => Err(refused_number(
+        Some(Unfit::TooGreat) => Err(rejected_number(alloc, number, TOO_GREAT)),
+        Some(Unfit::SameNumber) => Err(rejected_number(
             alloc,
             number,
             "a number that no value above has",
         )),
-        Some(_) => Err(refused(
+        Some(_) => Err(rejected(
             alloc,
             name.place,
             text,
@@ -199,10 +199,10 @@ fn is_reserved(text: &str) -> bool
 }
 
 /// The error for a rejected number.
-pub fn refused_number(alloc: Global, number: Number, expected: &'static str) -> Trouble {
+pub fn rejected_number(alloc: Global, number: Number, expected: &'static str) -> Trouble {
     let value = number.value;
     match format!(in alloc; "{value}") {
-        Ok(found) => refused(alloc, number.place, found.as_str(), expected),
+        Ok(found) => rejected(alloc, number.place, found.as_str(), expected),
         Err(_) => Trouble::Memory,
     }
 }

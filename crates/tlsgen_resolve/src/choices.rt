@@ -10,17 +10,17 @@ use crate::held::member_name;
 use crate::members::{ResolvedMember, copy, push_member};
 use crate::naming::{choice_doc, push_comment, type_name, underscored};
 use crate::padding::push_padding;
-use crate::refuse::refused;
+use crate::reject::rejected;
 use crate::resolver::Resolver;
 use crate::segment::{
-    ResolvedPiece, ResolvedSelect, check_segment, counted_select, nearest_select, refused_counting,
+    ResolvedPiece, ResolvedSelect, check_segment, counted_select, nearest_select, rejected_counting,
 };
 use crate::sequence::{IndexedField, Sequence, tag_of_select};
 use crate::types::declared;
 use tlsgen_model::lists::{CaseList, FieldList, Unfit};
 use tlsgen_model::names::{constant_name, field_name, module_name, variant_name};
 use tlsgen_model::plan::{Body, CaseTag, Decided, Element, Member, Message, Shape, Type, Variant};
-use tlsgen_syntax::refusal::Trouble;
+use tlsgen_syntax::rejection::Trouble;
 use tlsgen_syntax::syntax::{Field, Name, Select};
 
 impl<'a> Resolver<'a> {
@@ -123,7 +123,7 @@ impl<'a> Resolver<'a> {
         };
         match list.push(variant)? {
             None => Ok(()),
-            Some(unfit) => Err(refused(self.alloc, case.place, label, expected(unfit))),
+            Some(unfit) => Err(rejected(self.alloc, case.place, label, expected(unfit))),
         }
     }
 
@@ -215,7 +215,7 @@ impl<'a> Resolver<'a> {
             match piece {
                 ResolvedPiece::Member(member) => self.push_copy(member, &mut list)?,
                 ResolvedPiece::Select(select) => self.push_own(select, case.number, &mut list)?,
-                ResolvedPiece::Length(length) => return Err(refused_counting(self.alloc, length)),
+                ResolvedPiece::Length(length) => return Err(rejected_counting(self.alloc, length)),
             }
         }
         Ok(list.into_members())
@@ -231,7 +231,7 @@ impl<'a> Resolver<'a> {
     // Appends a member of a case. Rejects one in the context of a tag elsewhere.
     fn push_of_case(&self, member: ResolvedMember, list: &mut FieldList) -> Result<(), Trouble> {
         if !matches!(member.member.decided, Decided::Alone) {
-            return Err(refused(
+            return Err(rejected(
                 self.alloc,
                 member.place,
                 member.member.name.as_str(),

@@ -5,17 +5,17 @@ ghost use Rattle.std.specs.Prelude.{IfOk};
 ghost use Rattle.tlsgen_model.specs.Writable.{IsWritable};
 
 use crate::cases::{Tag, find_name, find_tag};
-use crate::checks::{TOO_GREAT, enum_width, named, refused_number};
+use crate::checks::{TOO_GREAT, enum_width, named, rejected_number};
 use crate::items::has_bytes;
 use crate::naming::{base_name, type_name, underscored};
-use crate::refuse::refused;
+use crate::reject::rejected;
 use crate::scope::Scope;
 use std::alloc::{AllocError, Global};
 use tlsgen_model::lists::ValueList;
 use tlsgen_model::names::{constant_name, variant_name};
 use tlsgen_model::plan::{Body, Value};
 use tlsgen_model::width::Width;
-use tlsgen_syntax::refusal::Trouble;
+use tlsgen_syntax::rejection::Trouble;
 use tlsgen_syntax::syntax::{Constant, Enum, Field, Name, Number, Vector};
 
 const NO_CONSTANT: &str =
@@ -68,7 +68,7 @@ fn named_constant(
             return of_value(alloc, one, width, name, number);
         }
     }
-    Err(refused(
+    Err(rejected(
         alloc,
         name.place,
         name.text.as_str(),
@@ -147,9 +147,9 @@ fn numbered_constant(
             },
         ) => match find_name(one, number.value) {
             Some(name) => of_value(alloc, one, width, name, number),
-            None => Err(refused_number(alloc, number, "a value of the field's enum")),
+            None => Err(rejected_number(alloc, number, "a value of the field's enum")),
         },
-        None => Err(refused_number(alloc, number, NO_CONSTANT)),
+        None => Err(rejected_number(alloc, number, NO_CONSTANT)),
     }
 }
 
@@ -167,10 +167,10 @@ fn constant_of_bytes(
         find_tag(alloc, scope, field)?.map(|tag| tag.width)
     };
     let Some(width) = width else {
-        return Err(refused_field(alloc, field, NO_CONSTANT));
+        return Err(rejected_field(alloc, field, NO_CONSTANT));
     };
     if elements.len() != width.bytes {
-        return Err(refused_field(alloc, field, "as many elements as the field has bytes"));
+        return Err(rejected_field(alloc, field, "as many elements as the field has bytes"));
     }
     let mut value = 0;
     for element in elements {
@@ -201,13 +201,13 @@ fn array_width(field: &Field) -> Option<Width> {
 fn with_byte(alloc: Global, value: u64, element: Number) -> Result<u64, Trouble> {
     match u8::try_from(element.value) {
         Ok(byte) => Ok((value << 8) | u64::from(byte)),
-        Err(_) => Err(refused_number(alloc, element, "a byte")),
+        Err(_) => Err(rejected_number(alloc, element, "a byte")),
     }
 }
 
 fn of_number(alloc: Global, field: &Field, width: Width, number: Number) -> Result<Fixed, Trouble> {
     if !width.holds(number.value) {
-        return Err(refused_number(alloc, number, "a number of at most the field's bytes"));
+        return Err(rejected_number(alloc, number, "a number of at most the field's bytes"));
     }
     let digits = hexadecimal(alloc, width, number.value)?;
     let digits = digits.as_str();
@@ -248,11 +248,11 @@ pub fn fixed_body(alloc: Global, fixed: &Fixed) -> Result<Body, Trouble>
     };
     match values.push(value)? {
         None => Ok(values.into_body(false)),
-        Some(_) => Err(refused_number(alloc, fixed.number, TOO_GREAT)),
+        Some(_) => Err(rejected_number(alloc, fixed.number, TOO_GREAT)),
     }
 }
 
-fn refused_field(alloc: Global, field: &Field, expected: &'static str) -> Trouble {
+fn rejected_field(alloc: Global, field: &Field, expected: &'static str) -> Trouble {
     let name = &field.name;
-    refused(alloc, name.place, name.text.as_str(), expected)
+    rejected(alloc, name.place, name.text.as_str(), expected)
 }

@@ -7,13 +7,13 @@ use crate::holders::{Site, giver_of, site_of};
 use crate::items::find_struct;
 use crate::known::{Known, sequence_named};
 use crate::naming::{type_name, underscored};
-use crate::refuse::refused;
+use crate::reject::rejected;
 use crate::scope::Scope;
 use crate::sequence::{IndexedField, Piece, Sequence};
 use std::alloc::{AllocError, Global};
 use tlsgen_model::names::field_name;
 use tlsgen_model::plan::{Context, Element};
-use tlsgen_syntax::refusal::Trouble;
+use tlsgen_syntax::rejection::Trouble;
 use tlsgen_syntax::syntax::{Field, Item, Name, Select, Struct};
 
 /// A tag that isn't in the struct: its name, and its type.
@@ -101,7 +101,7 @@ pub fn outer_tag<'a>(
     select: &'a Select,
 ) -> Result<OuterTag<'a>, Trouble> {
     let Some((name, words)) = select.path.split_last() else {
-        return Err(refused(alloc, select.place, "select", "the name of a tag"));
+        return Err(rejected(alloc, select.place, "select", "the name of a tag"));
     };
     let owner = struct_on_path(scope, words);
     let found = match owner {
@@ -115,7 +115,7 @@ pub fn outer_tag<'a>(
             tag,
             owner: owner.map(|one| &one.name),
         }),
-        _ => Err(refused(
+        _ => Err(rejected(
             alloc,
             name.place,
             name.text.as_str(),
@@ -263,7 +263,7 @@ fn with_type<'a>(
             if tag
                 .owner
                 .is_some_and(|owner| owner.text.as_str() == sequence.name) => {
-            Err(refused(
+            Err(rejected(
                 alloc,
                 of.place,
                 of.text.as_str(),
@@ -283,7 +283,7 @@ fn with_tag<'a>(
     context: Option<OuterTag<'a>>,
 ) -> Result<Option<OuterTag<'a>>, Trouble> {
     match context {
-        Some(other) if !other.is_same(&tag) => Err(refused(
+        Some(other) if !other.is_same(&tag) => Err(rejected(
             alloc,
             at.place,
             at.text.as_str(),

@@ -9,7 +9,7 @@ use crate::scope::Scope;
 use crate::types::bounded_type;
 use std::alloc::Global;
 use tlsgen_model::plan::Type;
-use tlsgen_syntax::refusal::Trouble;
+use tlsgen_syntax::rejection::Trouble;
 use tlsgen_syntax::syntax::{Field, Name, Number, Part, Struct, Vector};
 
 /// The number just before a part of a struct, if the part is a field of as many bytes.

@@ -8,7 +8,7 @@ use crate::resolver::Resolver;
 use crate::scope::Scope;
 use crate::types::{declared, type_of};
 use tlsgen_model::plan::Alias;
-use tlsgen_syntax::refusal::Trouble;
+use tlsgen_syntax::rejection::Trouble;
 use tlsgen_syntax::syntax::{Field, Part, Said, Struct};
 
 /// The three fields of such a struct.
@@ -46,7 +46,7 @@ impl<'a> Resolver<'a> {
         match find_tag(self.alloc, self.scope, kind)? {
             Some(tag) if tag.width.bytes == 1 => {}
             _ => {
-                return Err(self.refused_name(
+                return Err(self.rejected_name(
                     &kind.of,
                     "a type of one byte, an enum or uint8: it is the last byte that isn't zero",
                 ));

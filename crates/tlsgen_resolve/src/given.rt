@@ -1,10 +1,10 @@
 //! The names of selects: each is after its select in the text, or a note gives it.
 use crate::naming::is_of_field;
 use crate::notes::name_of_select;
-use crate::refuse::refused;
+use crate::reject::rejected;
 use crate::scope::Scope;
 use std::alloc::Global;
-use tlsgen_syntax::refusal::Trouble;
+use tlsgen_syntax::rejection::Trouble;
 use tlsgen_syntax::syntax::{Name, Select};
 
 /// What a select is called: with a capital the type that it becomes, with a small letter the field.
@@ -50,7 +50,7 @@ fn one_name<'a>(
         return Ok(given);
     };
     match given {
-        Some(other) if other.text != name.text => Err(refused(
+        Some(other) if other.text != name.text => Err(rejected(
             alloc,
             name.place,
             name.text.as_str(),

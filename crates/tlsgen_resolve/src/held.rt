@@ -5,14 +5,14 @@ use crate::known::Holding;
 use crate::members::ResolvedMember;
 use crate::naming::{type_name, underscored};
 use crate::output::is_same;
-use crate::refuse::refused;
+use crate::reject::rejected;
 use crate::resolver::Resolver;
 use crate::segment::ResolvedPiece;
 use crate::sequence::{IndexedField, Piece, Sequence};
 use std::alloc::{AllocError, Global};
 use tlsgen_model::names::field_name;
 use tlsgen_model::plan::{Before, Decided, Element, Holder};
-use tlsgen_syntax::refusal::{Place, Trouble};
+use tlsgen_syntax::rejection::{Place, Trouble};
 use tlsgen_syntax::syntax::{Field, Name};
 
 /// What became of a struct's field that is a tag of selects.
@@ -128,7 +128,7 @@ impl<'a> Resolver<'a> {
             }
             field = holding.field;
         }
-        Err(self.refused_name(
+        Err(self.rejected_name(
             &giver.of,
             "a struct with one field alone that is the tag, or a struct that has it",
         ))
@@ -147,7 +147,7 @@ impl<'a> Resolver<'a> {
             if self.out.holder(&name, of).is_some() {
                 return Ok(());
             }
-            return Err(self.refused_name(
+            return Err(self.rejected_name(
                 &field.of,
                 "a struct of this text, or one whose own text has parts that its tag decides",
             ));
@@ -167,7 +167,7 @@ impl<'a> Resolver<'a> {
         match self.out.holder(&name, of) {
             Some(kept) if kept.member == member => return Ok(()),
             Some(_) => {
-                return Err(self.refused_name(
+                return Err(self.rejected_name(
                     at,
                     "one tag of its type in a struct, where it decides parts of other structs",
                 ));
@@ -200,7 +200,7 @@ impl<'a> Resolver<'a> {
                 self.keep_holder(tag.name, name, of, None)?;
                 Ok(Some(member))
             }
-            Some(TagPart::Fixed) => Err(self.refused_name(
+            Some(TagPart::Fixed) => Err(self.rejected_name(
                 &holding.field.name,
                 "a tag of several cases, where it decides parts of other structs",
             )),
@@ -230,7 +230,7 @@ impl<'a> Resolver<'a> {
         }
         match giver {
             Some(name) if !has_member(tail, name) => {
-                Err(refused(
+                Err(rejected(
                     self.alloc,
                     sequence.place,
                     sequence.name,
@@ -252,7 +252,7 @@ impl<'a> Resolver<'a> {
         };
         let name = &before.member;
         if sequence.context.is_some() || giver.is_some_and(|other| *other != *name) {
-            return Err(refused(
+            return Err(rejected(
                 self.alloc,
                 member.place,
                 member.member.name.as_str(),

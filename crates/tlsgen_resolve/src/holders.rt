@@ -3,12 +3,12 @@
 use crate::contexts::{OuterTag, outer_tag};
 use crate::items::is_single;
 use crate::known::Known;
-use crate::refuse::refused;
+use crate::reject::rejected;
 use crate::scope::Scope;
 use crate::sequence::{IndexedField, Piece, Sequence, find_field, is_here};
 use std::alloc::{AllocError, Global};
 use std::collections::BTreeSet;
-use tlsgen_syntax::refusal::Trouble;
+use tlsgen_syntax::rejection::Trouble;
 use tlsgen_syntax::syntax::{Field, Name, Select};
 
 /// Where the tag of a select is.
@@ -55,7 +55,7 @@ fn site_on_path<'a>(
     };
     match find_field(sequence, word.text.as_str()) {
         Some(giver) if giver.index < at && is_giver(giver.field) => Ok(Site::Before(giver)),
-        Some(_) => Err(refused(
+        Some(_) => Err(rejected(
             alloc,
             word.place,
             word.text.as_str(),
@@ -91,7 +91,7 @@ pub fn giver_of<'a>(
         if let Piece::Field(field) = piece {
             if holds(all, sequence.name, field, tag, &label) {
                 if giver.is_some() {
-                    return Err(refused(
+                    return Err(rejected(
                         alloc,
                         field.name.place,
                         field.name.text.as_str(),

@@ -9,7 +9,7 @@
 //! - structs: `structs`, `sequence`, `pieces`, `segment`, `members`, with what only some have: `counted`, `constants`, `ending`,
 //!   `padding`, `borrowed`;
 //! - selects: `choices`, `single`, `sums`, `present`, `cases`, and where their tag is: `contexts`, `given`, `held`, `holders`, `known`;
-//! - `resolver` and `output`: what is known on the way, and what is made; `refuse`: how a text is rejected.
+//! - `resolver` and `output`: what is known on the way, and what is made; `reject`: how a text is rejected.
 #![tactic(auto)]
 
 mod borrowed;
@@ -37,7 +37,7 @@ mod padding;
 mod pieces;
 pub mod planning;
 mod present;
-mod refuse;
+mod reject;
 mod resolver;
 mod scope;
 mod segment;

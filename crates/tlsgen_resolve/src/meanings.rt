@@ -1,8 +1,8 @@
 //! Replaces each name of a text that means a definition by the one spelling of that definition.
 use crate::definitions::{Definitions, Meaning};
-use crate::refuse::refused;
+use crate::reject::rejected;
 use std::alloc::Global;
-use tlsgen_syntax::refusal::Trouble;
+use tlsgen_syntax::rejection::Trouble;
 use tlsgen_syntax::syntax::{Field, File, Item, Name, Note, Part, Select, Struct, Vector};
 
 /// Puts in place of each name in a file the one of the definition that it means. Rejects a name that the file doesn't define,
@@ -64,7 +64,7 @@ impl Settling<'_> {
                 }
                 Ok(())
             }
-            Meaning::Several => Err(refused(
+            Meaning::Several => Err(rejected(
                 self.alloc,
                 name.place,
                 name.text.as_str(),

@@ -4,11 +4,11 @@ ghost use Rattle.std.proofs.Props.{props};
 ghost use Rattle.tlsgen_model.specs.Types.{IsType, can_be};
 ghost use Rattle.tlsgen_model.specs.declared.plan.Shape.{Shape as AShape};
 
-use crate::refuse::refused;
+use crate::reject::rejected;
 use std::alloc::{AllocError, Global};
 use tlsgen_model::lists::FieldList;
 use tlsgen_model::plan::{Before, Decided, Element, Member, Type};
-use tlsgen_syntax::refusal::{Place, Trouble};
+use tlsgen_syntax::rejection::{Place, Trouble};
 
 /// A member, and the place of its field in the file.
 #[derive(Drop)]
@@ -27,7 +27,7 @@ pub fn push_member(
     let place = resolved.place;
     match fields.push(resolved.member)? {
         None => Ok(()),
-        Some(member) => Err(refused(
+        Some(member) => Err(rejected(
             alloc,
             place,
             member.name.as_str(),

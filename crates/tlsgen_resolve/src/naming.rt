@@ -6,7 +6,7 @@ use crate::sequence::Sequence;
 use std::alloc::{AllocError, Global};
 use tlsgen_model::names::{module_name, variant_name};
 use tlsgen_model::words::{is_module_word, is_type_word};
-use tlsgen_syntax::refusal::Trouble;
+use tlsgen_syntax::rejection::Trouble;
 use tlsgen_syntax::syntax::{Field, Name, Remark};
 
 impl<'a> Resolver<'a> {
@@ -31,7 +31,7 @@ impl<'a> Resolver<'a> {
     pub fn free_name(&self, name: &Name) -> Result<String, Trouble> {
         let module = type_module(self.alloc, name)?;
         if self.is_taken(&module) {
-            return Err(self.refused_name(name, "a name that no type has"));
+            return Err(self.rejected_name(name, "a name that no type has"));
         }
         Ok(type_name(self.alloc, name.text.as_str())?)
     }
@@ -49,7 +49,7 @@ impl<'a> Resolver<'a> {
         if !self.is_taken(&module_name(alloc, long.as_str())?) {
             return Ok(long);
         }
-        Err(self.refused_name(
+        Err(self.rejected_name(
             tag,
             "a name for what the tag and its selects become, after the select: `} NAME;`",
         ))

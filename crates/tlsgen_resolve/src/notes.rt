@@ -3,12 +3,12 @@ use crate::counted::{is_length, path_of_array};
 use crate::ending::ending_of;
 use crate::naming::is_of_field;
 use crate::padding::Padding;
-use crate::refuse::refused;
+use crate::reject::rejected;
 use crate::resolver::Resolver;
 use crate::scope::Scope;
 use std::alloc::{AllocError, Global};
 use std::collections::BTreeSet;
-use tlsgen_syntax::refusal::Trouble;
+use tlsgen_syntax::rejection::Trouble;
 use tlsgen_syntax::syntax::{
     Case, Field, File, Item, Label, Name, Note, Number, Part, Said, Select, Struct,
 };
@@ -161,7 +161,7 @@ impl<'a> Resolver<'a> {
         let sizes = sizes_of(self.alloc, file)?;
         for note in &file.notes {
             if let Some(expected) = self.unused(file, &sizes, note)? {
-                return Err(refused_note(self.alloc, note, expected));
+                return Err(rejected_note(self.alloc, note, expected));
             }
         }
         Ok(())
@@ -313,9 +313,9 @@ fn joined(alloc: Global, path: &[Name]) -> Result<String, AllocError> {
     Ok(text)
 }
 
-fn refused_note(alloc: Global, note: &Note, expected: &'static str) -> Trouble {
+fn rejected_note(alloc: Global, note: &Note, expected: &'static str) -> Trouble {
     match note.path.first() {
-        Some(name) => refused(alloc, name.place, name.text.as_str(), expected),
+        Some(name) => rejected(alloc, name.place, name.text.as_str(), expected),
         None => Trouble::Inconsistent,
     }
 }

@@ -1,8 +1,8 @@
 //! The order in which a file's items are settled: each after all that it contains.
-use crate::refuse::refused;
+use crate::reject::rejected;
 use crate::scope::Scope;
 use std::alloc::{AllocError, Global};
-use tlsgen_syntax::refusal::Trouble;
+use tlsgen_syntax::rejection::Trouble;
 use tlsgen_syntax::syntax::{Field, File, Item, Part, Select, Struct};
 
 /// The positions of the items in the last file, each after those of all that it contains. Rejects an item that contains
@@ -15,7 +15,7 @@ pub fn order_of(alloc: Global, scope: Scope<'_>, file: &File) -> Result<Vec<usiz
     let rounds = Rounds::of(alloc, &needs)?;
     match rounds.left.iter().position(|left| *left > 0) {
         None => Ok(rounds.order(alloc)?),
-        Some(first) => Err(refused_circle(alloc, file, &needs, &rounds.left, first)),
+        Some(first) => Err(rejected_circle(alloc, file, &needs, &rounds.left, first)),
     }
 }
 
@@ -133,7 +133,7 @@ fn is_settled(left: &[usize], at: usize) -> bool {
     left.get(at).copied().unwrap_or(0) == 0
 }
 
-fn refused_circle(
+fn rejected_circle(
     alloc: Global,
     file: &File,
     needs: &[Vec<usize>],
@@ -144,7 +144,7 @@ fn refused_circle(
     match file.items.get(at) {
         Some(item) => {
             let name = item.name();
-            refused(
+            rejected(
                 alloc,
                 name.place,
                 name.text.as_str(),

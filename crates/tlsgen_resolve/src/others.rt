@@ -2,11 +2,11 @@
 use crate::members::copy_type;
 use crate::naming::type_name;
 use crate::output::Output;
-use crate::refuse::refused;
+use crate::reject::rejected;
 use std::alloc::{AllocError, Global};
 use std::collections::BTreeSet;
 use tlsgen_model::plan::{Body, Element, Member, Other};
-use tlsgen_syntax::refusal::Trouble;
+use tlsgen_syntax::rejection::Trouble;
 use tlsgen_syntax::syntax::{Field, File, Item, Name, Part};
 
 /// The enums of the crate that is resolved which are the types of tags, and of no members: those aren't written.
@@ -74,18 +74,18 @@ pub fn check_alone(alloc: Global, file: &File, out: &Output) -> Result<(), Troub
     let named = named_in_messages(alloc, out)?;
     for name in out.unwritten() {
         if out.home_of(name) != Some(out.home) && named.contains(name) {
-            return Err(refused_alone(alloc, file, name));
+            return Err(rejected_alone(alloc, file, name));
         }
     }
     match out.hidden().iter().find(|name| named.contains(*name)) {
-        Some(name) => Err(refused_shared(alloc, file, name)),
+        Some(name) => Err(rejected_shared(alloc, file, name)),
         None => Ok(()),
     }
 }
 
-fn refused_alone(alloc: Global, file: &File, name: &String) -> Trouble {
+fn rejected_alone(alloc: Global, file: &File, name: &String) -> Trouble {
     match naming(alloc, file, name) {
-        Ok(Some(of)) => refused(
+        Ok(Some(of)) => rejected(
             alloc,
             of.place,
             of.text.as_str(),
@@ -97,9 +97,9 @@ fn refused_alone(alloc: Global, file: &File, name: &String) -> Trouble {
 }
 
 // The error for a tag whose type has a name that this file or a third crate has too.
-fn refused_shared(alloc: Global, file: &File, name: &String) -> Trouble {
+fn rejected_shared(alloc: Global, file: &File, name: &String) -> Trouble {
     match file.items.first() {
-        Some(item) => refused(
+        Some(item) => rejected(
             alloc,
             item.name().place,
             name.as_str(),

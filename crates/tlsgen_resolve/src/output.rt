@@ -3,13 +3,13 @@ ghost use Rattle.std.specs.Prelude.{IfOk};
 ghost use Rattle.tlsgen_model.specs.Writable.{AreWritable, HaveModules, IsWritable};
 
 use crate::others::others_of;
-use crate::refuse::refused;
+use crate::reject::rejected;
 use std::alloc::{AllocError, Global};
 use std::collections::{BTreeMap, BTreeSet};
 use std::mem::replace;
 use tlsgen_model::messages::Messages;
 use tlsgen_model::plan::{Alias, Context, Element, Holder, Message, Other, Plan};
-use tlsgen_syntax::refusal::{Place, Trouble};
+use tlsgen_syntax::rejection::{Place, Trouble};
 
 /// The messages and aliases that are made, and what is kept while they are.
 #[derive(Drop)]
@@ -217,7 +217,7 @@ impl Output {
                 self.modules.insert(module)?;
                 Ok(())
             }
-            Some(message) => Err(refused(
+            Some(message) => Err(rejected(
                 self.alloc,
                 place,
                 message.name.as_str(),

@@ -1,11 +1,11 @@
 //! Padding up to the end of the input, without a length, such as `opaque padding[length_of_padding];` of RFC 9420, section 6.3.1.
 //! The struct that is made lacks it. A type around that struct reads and writes both.
 use crate::naming::type_name;
-use crate::refuse::refused;
+use crate::reject::rejected;
 use crate::sequence::Sequence;
 use crate::types::declared;
 use std::alloc::{AllocError, Global};
-use tlsgen_syntax::refusal::Trouble;
+use tlsgen_syntax::rejection::Trouble;
 use tlsgen_syntax::syntax::Field;
 
 /// The last field of a struct, which goes to the end.
@@ -36,7 +36,7 @@ impl Padding<'_> {
 /// Rejects bytes to the end of a struct that is in a context: no type has them.
 pub fn check_padding(alloc: Global, sequence: &Sequence<'_>) -> Result<(), Trouble> {
     match sequence.padding {
-        Some(Padding::Bytes(field)) if sequence.context.is_some() => Err(refused(
+        Some(Padding::Bytes(field)) if sequence.context.is_some() => Err(rejected(
             alloc,
             field.name.place,
             field.name.text.as_str(),

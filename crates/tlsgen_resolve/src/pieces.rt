@@ -4,9 +4,9 @@ use crate::counted::length_before;
 use crate::ending::ending_of;
 use crate::notes::{counts_select, filling_field, is_padding, padding_of, settled_case};
 use crate::scope::Scope;
-use crate::sequence::{MAX_PIECES, Piece, Sequence, refused_size};
+use crate::sequence::{MAX_PIECES, Piece, Sequence, rejected_size};
 use std::alloc::{AllocError, Global};
-use tlsgen_syntax::refusal::Trouble;
+use tlsgen_syntax::rejection::Trouble;
 use tlsgen_syntax::syntax::{Field, Part, Select, Struct};
 
 /// The pieces of a struct.
@@ -18,7 +18,7 @@ pub fn own_pieces<'a>(
     let name = one.name.text.as_str();
     let mut pieces = Vec::new(alloc);
     if one.parts.len() > MAX_PIECES {
-        return Err(refused_size(alloc, &one.name));
+        return Err(rejected_size(alloc, &one.name));
     }
     for (at, part) in written_parts(scope, one).iter().enumerate() {
         match part {

@@ -10,7 +10,7 @@ use crate::naming::{definition_doc, type_name};
 use crate::order::order_of;
 use crate::others::{check_alone, tags_alone};
 use crate::output::Output;
-use crate::refuse::refused;
+use crate::reject::rejected;
 use crate::resolver::Resolver;
 use crate::scope::{Index, Scope};
 use crate::sequence::{Piece, Sequence};
@@ -18,7 +18,7 @@ use crate::types::{declared, type_of};
 use std::alloc::{AllocError, Global};
 use std::collections::BTreeSet;
 use tlsgen_model::plan::{Alias, Plan};
-use tlsgen_syntax::refusal::Trouble;
+use tlsgen_syntax::rejection::Trouble;
 use tlsgen_syntax::syntax::{Enum, Field, File, Item};
 
 // A short text may put a struct's parts in many places.
@@ -132,8 +132,8 @@ fn error_of(
     trouble: Trouble,
 ) -> PlanError {
     let homes = match &trouble {
-        Trouble::Refused(refusal) => {
-            definitions.homes_before(alloc, file, refusal.found.as_str())
+        Trouble::Rejected(rejection) => {
+            definitions.homes_before(alloc, file, rejection.found.as_str())
         }
         Trouble::Memory | Trouble::Inconsistent => Ok(Vec::new(alloc)),
     };
@@ -189,7 +189,7 @@ impl<'a> Resolver<'a> {
 
     fn resolve_alias(&mut self, field: &Field) -> Result<(), Trouble> {
         if needs_outer_tag(&self.known, field.of.text.as_str()) {
-            return Err(self.refused_name(
+            return Err(self.rejected_name(
                 &field.of,
                 "a struct whose selects have their tags in it",
             ));
@@ -210,7 +210,7 @@ impl<'a> Resolver<'a> {
         let filled = filled_types(self.alloc, self.known.as_slice())?;
         for sequence in self.known.as_slice() {
             if sequence.is_filling && !filled.contains(sequence.name) {
-                return Err(refused(
+                return Err(rejected(
                     self.alloc,
                     sequence.place,
                     sequence.name,

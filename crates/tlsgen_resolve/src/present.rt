@@ -11,7 +11,7 @@ use crate::types::declared;
 use std::alloc::{AllocError, Global};
 use tlsgen_model::names::field_name;
 use tlsgen_model::plan::Decided;
-use tlsgen_syntax::refusal::Trouble;
+use tlsgen_syntax::rejection::Trouble;
 use tlsgen_syntax::syntax::{Enum, Field, Label, Select};
 
 impl<'a> Resolver<'a> {

@@ -12,7 +12,7 @@ use crate::known::{Known, needs_outer_tag, sequence_named};
 use crate::members::ResolvedMember;
 use crate::naming::{definition_doc, type_name};
 use crate::output::Output;
-use crate::refuse::{Budget, refused};
+use crate::reject::{Budget, rejected};
 use crate::scope::Scope;
 use crate::sequence::Sequence;
 use crate::types::{declared, type_of};
@@ -21,7 +21,7 @@ use std::collections::{BTreeMap, BTreeSet};
 use std::mem::replace;
 use tlsgen_model::names::module_name;
 use tlsgen_model::plan::{Body, Decided, Member, Message, Type};
-use tlsgen_syntax::refusal::{Place, Trouble};
+use tlsgen_syntax::rejection::{Place, Trouble};
 use tlsgen_syntax::syntax::{Field, File, Name, Remark};
 
 /// Resolves files, one crate after another, and in each the items after those that they contain.
@@ -76,11 +76,11 @@ impl<'a> Resolver<'a> {
 
     fn add_module(&mut self, name: &Name) -> Result<(), Trouble> {
         if self.scope.count() > MAX_ITEMS {
-            return Err(self.refused_name(name, "at most 100000 definitions"));
+            return Err(self.rejected_name(name, "at most 100000 definitions"));
         }
         let module = type_module(self.alloc, name)?;
         if self.modules.contains(&module) {
-            return Err(self.refused_name(
+            return Err(self.rejected_name(
                 name,
                 "a name that no definition above has, and whose words aren't those of one above",
             ));
@@ -100,8 +100,8 @@ impl<'a> Resolver<'a> {
     }
 
     /// The error for a rejected name.
-    pub fn refused_name(&self, name: &Name, expected: &'static str) -> Trouble {
-        refused(self.alloc, name.place, name.text.as_str(), expected)
+    pub fn rejected_name(&self, name: &Name, expected: &'static str) -> Trouble {
+        rejected(self.alloc, name.place, name.text.as_str(), expected)
     }
 
     /// The member of a field.
@@ -146,7 +146,7 @@ impl<'a> Resolver<'a> {
             return Ok(());
         };
         match self.misplaced(sequence, field)? {
-            Some(expected) => Err(self.refused_name(&field.of, expected)),
+            Some(expected) => Err(self.rejected_name(&field.of, expected)),
             None => Ok(()),
         }
     }

@@ -2,9 +2,9 @@
 use crate::cases::{Labelled, has_case};
 use crate::given::{Given, joined};
 use crate::members::ResolvedMember;
-use crate::refuse::refused;
+use crate::reject::rejected;
 use std::alloc::Global;
-use tlsgen_syntax::refusal::{Place, Trouble};
+use tlsgen_syntax::rejection::{Place, Trouble};
 use tlsgen_syntax::syntax::Field;
 
 /// A piece of a struct: the member that a field becomes, or a select with its cases.
@@ -79,10 +79,10 @@ pub fn check_segment(
     for piece in segment {
         if let ResolvedPiece::Select(select) = piece {
             if select.tag != tag {
-                return Err(refused_crossing(alloc, select.place));
+                return Err(rejected_crossing(alloc, select.place));
             }
             if !have_same(&select.cases, cases) {
-                return Err(refused(
+                return Err(rejected(
                     alloc,
                     select.place,
                     "select",
@@ -100,9 +100,9 @@ fn have_same(own: &[Labelled<'_>], cases: &[Labelled<'_>]) -> bool {
 }
 
 /// The error for a length that isn't allowed between a tag and its select.
-pub fn refused_counting(alloc: Global, length: &Field) -> Trouble {
+pub fn rejected_counting(alloc: Global, length: &Field) -> Trouble {
     let name = &length.name;
-    refused(
+    rejected(
         alloc,
         name.place,
         name.text.as_str(),
@@ -111,8 +111,8 @@ pub fn refused_counting(alloc: Global, length: &Field) -> Trouble {
 }
 
 /// The error for a select on an earlier tag between a tag and its select.
-pub fn refused_crossing(alloc: Global, place: Place) -> Trouble {
-    refused(
+pub fn rejected_crossing(alloc: Global, place: Place) -> Trouble {
+    rejected(
         alloc,
         place,
         "select",

@@ -4,10 +4,10 @@ use crate::items::{integer_width, is_single};
 use crate::known::Known;
 use crate::padding::Padding;
 use crate::pieces::own_pieces;
-use crate::refuse::refused;
+use crate::reject::rejected;
 use crate::scope::Scope;
 use std::alloc::Global;
-use tlsgen_syntax::refusal::{Place, Trouble};
+use tlsgen_syntax::rejection::{Place, Trouble};
 use tlsgen_syntax::syntax::{Field, Name, Remark, Select, Struct};
 
 /// The most pieces of a struct.
@@ -64,8 +64,8 @@ pub fn sequence_of<'a>(
 }
 
 /// The error for a struct of more parts.
-pub fn refused_size(alloc: Global, name: &Name) -> Trouble {
-    refused(
+pub fn rejected_size(alloc: Global, name: &Name) -> Trouble {
+    rejected(
         alloc,
         name.place,
         name.text.as_str(),
@@ -77,7 +77,7 @@ fn check_paths(alloc: Global, sequence: &Sequence<'_>) -> Result<(), Trouble> {
     for piece in &sequence.pieces {
         if let Piece::Select(select) = piece {
             if select.path.is_empty() || select.path.len() > MAX_WORDS {
-                return Err(refused(alloc, select.place, "select", "a path of 1 to 16 names"));
+                return Err(rejected(alloc, select.place, "select", "a path of 1 to 16 names"));
             }
         }
     }
@@ -140,10 +140,10 @@ pub fn tag_of_select<'a>(
     at: usize,
 ) -> Result<IndexedField<'a>, Trouble> {
     let Some((last, words)) = select.path.split_last() else {
-        return Err(refused(alloc, select.place, "select", "the name of a tag"));
+        return Err(rejected(alloc, select.place, "select", "the name of a tag"));
     };
     if let Some(word) = words.get(1) {
-        return Err(refused(
+        return Err(rejected(
             alloc,
             word.place,
             word.text.as_str(),
@@ -152,14 +152,14 @@ pub fn tag_of_select<'a>(
     }
     let name = last.text.as_str();
     match find_tag(sequence, name) {
-        None => Err(refused(
+        None => Err(rejected(
             alloc,
             last.place,
             name,
             "the name of a field of the same bytes",
         )),
         Some(tag) if tag.index >= at => {
-            Err(refused(alloc, last.place, name, "a tag above its select"))
+            Err(rejected(alloc, last.place, name, "a tag above its select"))
         }
         Some(tag) => {
             check_one(alloc, sequence, last, tag.index)?;
@@ -179,7 +179,7 @@ fn check_one(
     for (at, piece) in sequence.pieces.iter().enumerate() {
         if let Piece::Field(field) = piece {
             if at != found && field.name.text.as_str() == text {
-                return Err(refused(
+                return Err(rejected(
                     alloc,
                     name.place,
                     text,

@@ -5,14 +5,14 @@ use crate::members::{ResolvedMember, copy};
 use crate::naming::underscored;
 use crate::resolver::Resolver;
 use crate::segment::{
-    ResolvedPiece, ResolvedSelect, check_segment, nearest_select, refused_counting,
+    ResolvedPiece, ResolvedSelect, check_segment, nearest_select, rejected_counting,
 };
 use crate::sequence::IndexedField;
 use crate::types::declared;
 use std::alloc::Global;
 use tlsgen_model::names::field_name;
 use tlsgen_model::plan::{Decided, Element, Member, Shape, Type};
-use tlsgen_syntax::refusal::Trouble;
+use tlsgen_syntax::rejection::Trouble;
 use tlsgen_syntax::syntax::{Field, Name, Number};
 
 impl<'a> Resolver<'a> {
@@ -32,7 +32,7 @@ impl<'a> Resolver<'a> {
             match piece {
                 ResolvedPiece::Member(member) => tail.push(ResolvedPiece::Member(copy(member)?))?,
                 ResolvedPiece::Select(select) => self.prepend_case(select, tail)?,
-                ResolvedPiece::Length(length) => return Err(refused_counting(self.alloc, length)),
+                ResolvedPiece::Length(length) => return Err(rejected_counting(self.alloc, length)),
             }
         }
         let number = Number {

@@ -10,17 +10,17 @@ use crate::holders::{Site, site_of};
 use crate::members::push_member;
 use crate::naming::type_name;
 use crate::padding::{check_padding, push_padding};
-use crate::refuse::refused;
+use crate::reject::rejected;
 use crate::resolver::Resolver;
 use crate::segment::{
-    ResolvedPiece, is_on, names_given, only_case, refused_counting, refused_crossing,
+    ResolvedPiece, is_on, names_given, only_case, rejected_counting, rejected_crossing,
 };
 use crate::sequence::{IndexedField, Piece, Sequence, sequence_of};
 use std::alloc::Global;
 use tlsgen_model::lists::FieldList;
 use tlsgen_model::names::module_name;
 use tlsgen_model::plan::Body;
-use tlsgen_syntax::refusal::Trouble;
+use tlsgen_syntax::rejection::Trouble;
 use tlsgen_syntax::syntax::{Field, Part, Select, Struct};
 
 impl<'a> Resolver<'a> {
@@ -185,7 +185,7 @@ impl<'a> Resolver<'a> {
         let module = module_name(self.alloc, fixed.type_name.as_str())?;
         let is_others = self.out.is_before(&module) && !self.out.is_constant(&fixed.type_name);
         if is_others || self.is_taken_here(&module) {
-            return Err(refused(
+            return Err(rejected(
                 self.alloc,
                 place,
                 fixed.label.as_str(),
@@ -214,13 +214,13 @@ fn struct_body(
     for piece in tail {
         match piece {
             ResolvedPiece::Member(member) => push_member(alloc, &mut list, member)?,
-            ResolvedPiece::Select(select) => return Err(refused_crossing(alloc, select.place)),
-            ResolvedPiece::Length(length) => return Err(refused_counting(alloc, length)),
+            ResolvedPiece::Select(select) => return Err(rejected_crossing(alloc, select.place)),
+            ResolvedPiece::Length(length) => return Err(rejected_counting(alloc, length)),
         }
     }
     match list.into_body() {
         Some(body) => Ok(body),
-        None => Err(refused(
+        None => Err(rejected(
             alloc,
             sequence.place,
             sequence.name,

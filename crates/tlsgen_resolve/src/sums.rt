@@ -11,21 +11,21 @@ use crate::known::sequence_named;
 use crate::members::{ResolvedMember, push_member};
 use crate::naming::{push_comment, section_doc, type_name, underscored};
 use crate::padding::push_padding;
-use crate::refuse::refused;
+use crate::reject::rejected;
 use crate::resolver::Resolver;
-use crate::segment::{ResolvedPiece, ResolvedSelect, refused_counting, refused_crossing};
+use crate::segment::{ResolvedPiece, ResolvedSelect, rejected_counting, rejected_crossing};
 use crate::sequence::{IndexedField, Piece, Sequence};
 use tlsgen_model::lists::{CaseList, FieldList};
 use tlsgen_model::names::field_name;
 use tlsgen_model::plan::{Body, Decided, Element, Member, Shape, Type};
-use tlsgen_syntax::refusal::{Place, Trouble};
+use tlsgen_syntax::rejection::{Place, Trouble};
 use tlsgen_syntax::syntax::{Field, Name, Select};
 
 impl<'a> Resolver<'a> {
     /// Rejects a borrowed struct in a context.
     pub fn check_borrowed_context(&self, sequence: &Sequence<'_>) -> Result<(), Trouble> {
         if sequence.is_borrowed && sequence.context.is_some() {
-            return Err(refused(
+            return Err(rejected(
                 self.alloc,
                 sequence.place,
                 sequence.name,
@@ -82,7 +82,7 @@ impl<'a> Resolver<'a> {
         if home == Some(self.out.home) || self.out.is_context(home, &name) {
             return Ok(());
         }
-        Err(self.refused_name(
+        Err(self.rejected_name(
             tag.name,
             "a tag whose enum this text defines, or has selects on from elsewhere in its own",
         ))
@@ -135,14 +135,14 @@ impl<'a> Resolver<'a> {
         ensures { IfOk result IsWritable }
     {
         if select.tag != tag.index {
-            return Err(refused_crossing(self.alloc, select.place));
+            return Err(rejected_crossing(self.alloc, select.place));
         }
         if sequence.is_borrowed {
-            return Err(refused_counting(self.alloc, length));
+            return Err(rejected_counting(self.alloc, length));
         }
         let of = tag_of(self.alloc, self.scope, tag.field)?;
         if of.width.bytes > 2 {
-            return Err(self.refused_name(
+            return Err(self.rejected_name(
                 &tag.field.of,
                 "a tag of 1 or 2 bytes before a length that counts the rest",
             ));
@@ -155,7 +155,7 @@ impl<'a> Resolver<'a> {
         }
         let width = integer_width(length.of.text.as_str());
         list.into_sum(width)
-            .ok_or_else(|| refused_counting(self.alloc, length))
+            .ok_or_else(|| rejected_counting(self.alloc, length))
     }
 
     // Appends the fields of a case that fill a length. Returns whether they are bytes that do so alone.

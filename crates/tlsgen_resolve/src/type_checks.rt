@@ -6,7 +6,7 @@ use crate::notes::{filling_field, is_padding};
 use crate::resolver::Resolver;
 use crate::sequence::{Piece, Sequence};
 use crate::types::type_of;
-use tlsgen_syntax::refusal::Trouble;
+use tlsgen_syntax::rejection::Trouble;
 use tlsgen_syntax::syntax::{Field, File, Item, Part, Select, Struct};
 
 impl<'a> Resolver<'a> {
@@ -46,7 +46,7 @@ impl<'a> Resolver<'a> {
         };
         counted_type(self.alloc, self.scope, length, field)?;
         if self.names_borrowed(field) {
-            return Err(self.refused_borrowed(field));
+            return Err(self.rejected_borrowed(field));
         }
         Ok(())
     }
@@ -70,7 +70,7 @@ impl<'a> Resolver<'a> {
     fn check_type(&self, field: &Field, is_borrowed: bool) -> Result<(), Trouble> {
         type_of(self.alloc, self.scope, field)?;
         if self.names_borrowed(field) && !(is_borrowed && is_single(field)) {
-            return Err(self.refused_borrowed(field));
+            return Err(self.rejected_borrowed(field));
         }
         Ok(())
     }
@@ -83,7 +83,7 @@ impl<'a> Resolver<'a> {
         for piece in &sequence.pieces {
             match piece {
                 Piece::Field(field) | Piece::Counted(_, field) if self.names_borrowed(field) => {
-                    return Err(self.refused_borrowed(field));
+                    return Err(self.rejected_borrowed(field));
                 }
                 Piece::Field(_) | Piece::Counted(..) | Piece::Length(_) => {}
                 Piece::Select(select) => self.check_cases(select, false)?,
@@ -92,8 +92,8 @@ impl<'a> Resolver<'a> {
         Ok(())
     }
 
-    fn refused_borrowed(&self, field: &Field) -> Trouble {
-        self.refused_name(
+    fn rejected_borrowed(&self, field: &Field) -> Trouble {
+        self.rejected_name(
             &field.of,
             "a type that has its parts: a borrowed struct is only written, and is a field of borrowed structs alone, in no vector and no option",
         )

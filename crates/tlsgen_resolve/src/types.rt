@@ -4,17 +4,17 @@ ghost use Rattle.tlsgen_model.specs.Types.{IsType, can_be, is_no_array, is_shape
 ghost use Rattle.tlsgen_model.specs.declared.plan.Shape.{Shape as AShape};
 ghost use Rattle.tlsgen_model.specs.declared.plan.Shape.TheVariants as shapes;
 
-use crate::checks::refused_number;
+use crate::checks::rejected_number;
 use crate::constants::fixed_of;
 use crate::items::{find, has_bytes, integer_width};
 use crate::naming::type_name;
 use crate::notes::number_of_path;
-use crate::refuse::refused;
+use crate::reject::rejected;
 use crate::scope::Scope;
 use std::alloc::{AllocError, Global};
 use tlsgen_model::plan::{Element, Shape, Type};
 use tlsgen_model::width::bytes_for;
-use tlsgen_syntax::refusal::Trouble;
+use tlsgen_syntax::rejection::Trouble;
 use tlsgen_syntax::syntax::{Constant, Field, Item, Name, Number, Vector};
 
 // The most elements of an array.
@@ -36,7 +36,7 @@ pub fn type_of(alloc: Global, scope: Scope<'_>, field: &Field) -> Result<Type, T
         Vector::Array(number) => array_type(alloc, scope, field, *number),
         Vector::Counted(path) => match number_of_path(scope, path) {
             Some(number) => array_type(alloc, scope, field, number),
-            None => Err(refused_length(alloc, path)),
+            None => Err(rejected_length(alloc, path)),
         },
         Vector::Variable => listed_type(alloc, scope, field, Shape::Variable),
         Vector::Bounded(least, most) => bounded_type(alloc, scope, field, *least, *most),
@@ -106,9 +106,9 @@ fn listed_type(
 }
 
 // Elsewhere `length_before` finds what counts a field.
-fn refused_length(alloc: Global, path: &[Name]) -> Trouble {
+fn rejected_length(alloc: Global, path: &[Name]) -> Trouble {
     match path.first() {
-        Some(name) => refused(
+        Some(name) => rejected(
             alloc,
             name.place,
             name.text.as_str(),
@@ -129,7 +129,7 @@ fn array_type(
     ensures { IfOk result IsType }
 {
     if number.value == 0 || number.value > MAX_ARRAY_LENGTH {
-        return Err(refused_number(alloc, number, "an array of 1 to 65535 bytes"));
+        return Err(rejected_number(alloc, number, "an array of 1 to 65535 bytes"));
     }
     if has_bytes(field) {
         return Ok(Type {
@@ -139,7 +139,7 @@ fn array_type(
         });
     }
     if cuts_an_integer(field, number.value) {
-        return Err(refused_number(alloc, number, CUT));
+        return Err(rejected_number(alloc, number, CUT));
     }
     listed_type(alloc, scope, field, Shape::Exact(number.value))
 }
@@ -165,7 +165,7 @@ fn bounded_shape(alloc: Global, least: Number, most: Number) -> Result<Shape, Tr
     ensures no_array { IfOk result (λ shape. IsTrue (is_no_array shape)) }
 {
     if least.value > most.value {
-        return Err(refused_number(alloc, least, "a floor that isn't above its ceiling"));
+        return Err(rejected_number(alloc, least, "a floor that isn't above its ceiling"));
     }
     match bytes_for(most.value) {
         Some(width) => Ok(Shape::Bounded {
@@ -173,7 +173,7 @@ fn bounded_shape(alloc: Global, least: Number, most: Number) -> Result<Shape, Tr
             least: least.value,
             most: most.value,
         }),
-        None => Err(refused_number(alloc, most, "a ceiling of at most 2^32-1")),
+        None => Err(rejected_number(alloc, most, "a ceiling of at most 2^32-1")),
     }
 }
 
@@ -194,7 +194,7 @@ fn single_element(alloc: Global, scope: Scope<'_>, field: &Field) -> Result<Elem
 {
     let of = &field.of;
     match of.text.as_str() {
-        "opaque" => Err(refused(
+        "opaque" => Err(rejected(
             alloc,
             of.place,
             "opaque",
@@ -212,14 +212,14 @@ fn listed_element(alloc: Global, scope: Scope<'_>, field: &Field) -> Result<Elem
 {
     let of = &field.of;
     match of.text.as_str() {
-        "opaque" if field.is_optional => Err(refused(
+        "opaque" if field.is_optional => Err(rejected(
             alloc,
             of.place,
             "opaque",
             "bytes in a vector, as `opaque NAME<V>` or `opaque NAME[16]`",
         )),
         "opaque" => Ok(Element::Opaque),
-        "string" => Err(refused(
+        "string" => Err(rejected(
             alloc,
             of.place,
             "string",
@@ -248,7 +248,7 @@ fn defined(alloc: Global, scope: Scope<'_>, of: &Name) -> Result<Element, Troubl
     match find(scope, text) {
         Some(Item::Alias(_)) => Ok(Element::Alias(type_name(alloc, text)?)),
         Some(_) => Ok(Element::Message(type_name(alloc, text)?)),
-        None => Err(refused(
+        None => Err(rejected(
             alloc,
             of.place,
             text,

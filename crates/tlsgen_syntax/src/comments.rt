@@ -2,7 +2,7 @@
 ghost use Rattle.std.specs.Prelude.{◌≡◌, IfSome};
 ghost use Rattle.tlsgen_syntax.specs.Comments.{marked};
 
-use crate::refusal::Place;
+use crate::rejection::Place;
 use std::alloc::AllocError;
 
 /// What a comment says, and what is around it.

@@ -2,7 +2,7 @@
 ghost use Rattle.std.specs.Prelude.{◌≡◌, ◌+◌, ◌≤◌, length, take, drop};
 ghost use Rattle.std.specs.Str.{IsAscii};
 
-use crate::refusal::Place;
+use crate::rejection::Place;
 
 /// What is left of a text, and where that begins.
 #[derive(Drop)]

@@ -4,7 +4,7 @@ ghost use Rattle.tlsgen_syntax.specs.Comments.{GoesOn, IsComment};
 
 use crate::comments::{Comment, comment_of};
 use crate::cursor::Cursor;
-use crate::refusal::{Place, Trouble};
+use crate::rejection::{Place, Trouble};
 use crate::remarks::give;
 use crate::syntax::Remark;
 use crate::token::{Mark, Token, TokenKind};
@@ -171,7 +171,7 @@ fn kind_of(alloc: Global, text: &str, place: Place) -> Result<TokenKind, Trouble
     match text.as_bytes() {
         [b'0'..=b'9', ..] => match number(text) {
             Some(number) => Ok(TokenKind::Number(number)),
-            None => Err(refusal(
+            None => Err(rejection(
                 alloc,
                 text,
                 place,
@@ -180,7 +180,7 @@ fn kind_of(alloc: Global, text: &str, place: Place) -> Result<TokenKind, Trouble
         },
         [b'a'..=b'z' | b'A'..=b'Z' | b'_', ..] => word(alloc, text, place),
         b".." => Ok(TokenKind::Mark(Mark::Dots)),
-        b"/*" => Err(refusal(alloc, text, place, "a comment that ends")),
+        b"/*" => Err(rejection(alloc, text, place, "a comment that ends")),
         [byte] => match Mark::of_byte(*byte) {
             Some(mark) => Ok(TokenKind::Mark(mark)),
             None => Err(no_token(alloc, text, place)),
@@ -190,10 +190,10 @@ fn kind_of(alloc: Global, text: &str, place: Place) -> Result<TokenKind, Trouble
 }
 
 fn no_token(alloc: Global, text: &str, place: Place) -> Trouble {
-    refusal(alloc, text, place, "a word, a number or a mark")
+    rejection(alloc, text, place, "a word, a number or a mark")
 }
 
-fn refusal(alloc: Global, text: &str, place: Place, expected: &'static str) -> Trouble {
+fn rejection(alloc: Global, text: &str, place: Place, expected: &'static str) -> Trouble {
     Trouble::at(place, String::from_str(alloc, text), expected)
 }
 
@@ -202,7 +202,7 @@ fn word(alloc: Global, text: &str, place: Place) -> Result<TokenKind, Trouble> {
         return Ok(TokenKind::Mark(mark));
     }
     if text.as_bytes().contains(&b'-') {
-        return Err(refusal(
+        return Err(rejection(
             alloc,
             text,
             place,

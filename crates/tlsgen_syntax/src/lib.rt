@@ -3,7 +3,7 @@
 //!
 //! - [`source`]: [`Source`](source::Source), what a text says as it is written.
 //! - [`syntax`]: [`File`](syntax::File), what a text says with what is signed and types in place apart.
-//! - [`refusal`]: [`Refusal`](refusal::Refusal), where and why a text is rejected.
+//! - [`rejection`]: [`Rejection`](rejection::Rejection), where and why a text is rejected.
 //! - [`token`]: [`Token`](token::Token), a word, a number or a mark of a text.
 //! - [`lexer`]: [`lex`](lexer::lex), the tokens of a text.
 //! - [`parser`]: [`parse`](parser::parse), what a text says.
@@ -21,8 +21,8 @@ pub mod noted;
 mod opening;
 pub mod parser;
 pub mod print;
-pub mod refusal;
 mod registry;
+pub mod rejection;
 mod remarks;
 pub mod signed;
 pub mod source;

@@ -1,8 +1,8 @@
 //! A text with its notes.
 ghost use Rattle.std.specs.Prelude.{◌≡◌, OnOk};
 
-use crate::refusal::Trouble;
 use crate::registry::name_values;
+use crate::rejection::Trouble;
 use crate::syntax::{Enum, File, Item, Note, Said, Struct};
 use std::alloc::{AllocError, Global};
 use std::collections::{BTreeMap, BTreeSet};
@@ -74,7 +74,7 @@ impl Noted {
         let at = self.position(note);
         match at.and_then(|at| file.items.get_mut(at)) {
             Some(Item::Enum(one)) => Ok(one),
-            _ => Err(refused(alloc, note, "an enum of this text")),
+            _ => Err(rejected(alloc, note, "an enum of this text")),
         }
     }
 
@@ -88,7 +88,7 @@ impl Noted {
         let at = self.position(note);
         match at.and_then(|at| file.items.get_mut(at)) {
             Some(Item::Struct(one)) => Ok(one),
-            _ => Err(refused(alloc, note, "a struct of this text")),
+            _ => Err(rejected(alloc, note, "a struct of this text")),
         }
     }
 
@@ -99,7 +99,7 @@ impl Noted {
                 self.left_out.insert(name.text.clone()?)?;
                 Ok(())
             }
-            _ => Err(refused(alloc, note, "a definition of this text")),
+            _ => Err(rejected(alloc, note, "a definition of this text")),
         }
     }
 }
@@ -117,7 +117,7 @@ pub(crate) fn positions(alloc: Global, file: &File) -> Result<BTreeMap<String, u
 }
 
 /// The error for a rejected note. A note that was read has a path; one without is `Inconsistent`.
-pub(crate) fn refused(alloc: Global, note: &Note, expected: &'static str) -> Trouble {
+pub(crate) fn rejected(alloc: Global, note: &Note, expected: &'static str) -> Trouble {
     match note.path.first() {
         Some(name) => Trouble::at(name.place, name.text.clone(), expected),
         None => Trouble::Inconsistent,

@@ -14,7 +14,7 @@ mod structs;
 
 use crate::lexer::lex;
 use crate::opening::open_unselected;
-use crate::refusal::{Place, Trouble};
+use crate::rejection::{Place, Trouble};
 use crate::signed::set_apart;
 use crate::source::{Definition, Source};
 use crate::syntax::{File, Note};

@@ -1,8 +1,8 @@
 //! Enums by the notes: integers whose values a registry names, as `uint16 CredentialType;` (RFC 9420, section 17.5), and tags
 //! that nothing defines, as `select (ClientOrServerExtension)` has (RFC 7250, section 3).
 
-use crate::noted::{positions, refused};
-use crate::refusal::Trouble;
+use crate::noted::{positions, rejected};
+use crate::rejection::Trouble;
 use crate::syntax::{Enum, Field, File, Item, Name, Note, Number, Part, Said, Value, Vector};
 use std::alloc::{AllocError, Global};
 use std::collections::{BTreeMap, BTreeSet};
@@ -137,7 +137,7 @@ fn check(
     };
     let at = by_name.get(&of.text).copied();
     match at.and_then(|at| file.items.get(at)) {
-        Some(Item::Enum(_)) => Err(refused(
+        Some(Item::Enum(_)) => Err(rejected(
             alloc,
             note,
             "an integer type of this text, as `uint16 CredentialType;`, or a name between an array's brackets",
@@ -237,10 +237,10 @@ impl Values {
             return Ok(());
         };
         if number.value > greatest {
-            return Err(refused(alloc, note, "a number that the type holds"));
+            return Err(rejected(alloc, note, "a number that the type holds"));
         }
         if self.names.contains(&name.text) || self.numbers.contains(&number.value) {
-            return Err(refused(
+            return Err(rejected(
                 alloc,
                 note,
                 "a name and a number that no note above gives the type",

@@ -1,7 +1,7 @@
 //! What a text says as it is written: what is signed, and types in place of their names, are inside
 //! the struct around them.
 
-use crate::refusal::Place;
+use crate::rejection::Place;
 use crate::syntax::{Field, Name, Number, Part, Vector};
 
 /// What a text defines, in its order.

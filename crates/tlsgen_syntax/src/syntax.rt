@@ -1,6 +1,6 @@
 //! What a text of the presentation language says, with what is signed and types in place apart.
 
-use crate::refusal::Place;
+use crate::rejection::Place;
 use std::alloc::Global;
 
 /// A name, its place in the text, and what comments say about what it names.

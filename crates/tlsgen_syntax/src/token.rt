@@ -3,7 +3,7 @@ ghost use Rattle.std.specs.Prelude.{◌≡◌, [], ◌∷◌, IfSome};
 ghost use Rattle.tlsgen_syntax.specs.Signs.{mark_text, sign_of};
 ghost use Rattle.tlsgen_syntax.specs.Signs as sign;
 
-use crate::refusal::Place;
+use crate::rejection::Place;
 use crate::syntax::Remark;
 use std::fmt;
 

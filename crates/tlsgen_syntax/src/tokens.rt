@@ -3,7 +3,7 @@ ghost use Rattle.std.specs.Prelude.{◌≡◌, ◌==◌, ◌+◌, ◌<◌, ◌�
 ghost use Rattle.tlsgen_syntax.specs.Signs.{Reads, count_left, flag_then, name_then, number_then, signs, signs_left, word_then};
 ghost use Rattle.tlsgen_syntax.specs.Signs as sign;
 
-use crate::refusal::{Place, Trouble};
+use crate::rejection::{Place, Trouble};
 use crate::syntax::{Name, Number};
 use crate::token::{Mark, Token};
 use std::alloc::Global;
@@ -122,7 +122,7 @@ impl<'a> Tokens<'a> {
         if self.take(mark) {
             return Ok(());
         }
-        Err(self.refused(alloc, expected))
+        Err(self.rejected(alloc, expected))
     }
 
     /// Takes a word as a name, and rejects any other token.
@@ -131,7 +131,7 @@ impl<'a> Tokens<'a> {
         ensures fewer { OnOk result (count_left self.new < count_left self.old) }
     {
         let Some((token, left)) = self.left.split_first() else {
-            return Err(self.refused(alloc, expected));
+            return Err(self.rejected(alloc, expected));
         };
         match token.kind.word() {
             Some(word) => {
@@ -144,7 +144,7 @@ impl<'a> Tokens<'a> {
                     remark,
                 })
             }
-            None => Err(self.refused(alloc, expected)),
+            None => Err(self.rejected(alloc, expected)),
         }
     }
 
@@ -159,12 +159,12 @@ impl<'a> Tokens<'a> {
     {
         match self.take_number() {
             Some(number) => Ok(number),
-            None => Err(self.refused(alloc, expected)),
+            None => Err(self.rejected(alloc, expected)),
         }
     }
 
     /// The error for the next token, or for the end.
-    pub(crate) fn refused(&self, alloc: Global, expected: &'static str) -> Trouble {
+    pub(crate) fn rejected(&self, alloc: Global, expected: &'static str) -> Trouble {
         let Some((token, _left)) = self.left.split_first() else {
             return Trouble::at(self.end, Ok(String::new(alloc)), expected);
         };

@@ -5,7 +5,7 @@ use std::process::Abort;
 use std::test::Fail;
 use tlsgen_model::plan::Body;
 use tlsgen_syntax::lexer::lex;
-use tlsgen_syntax::refusal::Trouble;
+use tlsgen_syntax::rejection::Trouble;
 use tlsgen_syntax::token::Token;
 
 const WHOLE: &str = "// As RFC 9420 has it.
@@ -99,7 +99,7 @@ fn what_comments_say(rt: HostRuntime) -> Result<(), Fail> {
 fn tokens_of(rt: &impl Abort, alloc: Global, text: &str) -> Vec<Token> {
     match lex(alloc, text) {
         Ok(tokens) => tokens,
-        Err(Trouble::Refused(refusal)) => panic!(rt; "{refusal}"),
+        Err(Trouble::Rejected(rejection)) => panic!(rt; "{rejection}"),
         Err(Trouble::Memory) => panic!(rt; "out of memory"),
         Err(Trouble::Inconsistent) => panic!(rt; "a fault of tlsgen"),
     }

@@ -1,13 +1,13 @@
 // Texts over those of other crates.
 use super::shown::show;
-use super::{expect_in_refusal, same, same_at};
+use super::{expect_in_rejection, same, same_at};
 use std::alloc::{AllocError, Global};
 use std::process::Abort;
 use std::test::Fail;
 use tlsgen_model::plan::Other;
 use tlsgen_resolve::planning::plan_of;
 use tlsgen_syntax::parser::parse;
-use tlsgen_syntax::refusal::{Refusal, Trouble};
+use tlsgen_syntax::rejection::{Rejection, Trouble};
 use tlsgen_syntax::syntax::File;
 
 static FIRST: &str =
@@ -32,7 +32,7 @@ fn rejected(
     rt: &impl Abort,
     alloc: Global,
     texts: &[&str],
-) -> Result<(usize, Refusal), AllocError> {
+) -> Result<(usize, Rejection), AllocError> {
     let mut files = read(rt, alloc, texts)?;
     let Err(error) = plan_of(alloc, &mut files) else {
         panic!(rt; "not rejected: {texts:?}");
@@ -40,7 +40,7 @@ fn rejected(
     let file = error.file;
     let trouble = error.trouble;
     match trouble {
-        Trouble::Refused(refusal) => Ok((file, refusal)),
+        Trouble::Rejected(rejection) => Ok((file, rejection)),
         _ => panic!(rt; "not rejected: {texts:?}"),
     }
 }
@@ -81,11 +81,11 @@ fn items_of_other_crates(rt: HostRuntime) -> Result<(), Fail> {
 #[test]
 fn what_other_crates_lack(rt: HostRuntime) -> Result<(), Fail> {
     let own = "struct { uint8 a; T t; } Q;";
-    let (file, refusal) = rejected(&rt, rt.alloc(), &[FIRST, SECOND, own])?;
+    let (file, rejection) = rejected(&rt, rt.alloc(), &[FIRST, SECOND, own])?;
     same(&rt, file, 2);
-    same(&rt, refusal.place.column, 19);
-    same(&rt, refusal.found.as_str(), "T");
-    expect_in_refusal(&rt, &refusal, "in its own crate too");
+    same(&rt, rejection.place.column, 19);
+    same(&rt, rejection.found.as_str(), "T");
+    expect_in_rejection(&rt, &rejection, "in its own crate too");
     Ok(())
 }
 
@@ -93,9 +93,9 @@ fn what_other_crates_lack(rt: HostRuntime) -> Result<(), Fail> {
 #[test]
 fn crates_before_it(rt: HostRuntime) -> Result<(), Fail> {
     let later = "struct { R r; } Later;";
-    let (file, refusal) = rejected(&rt, rt.alloc(), &[FIRST, later, SECOND])?;
+    let (file, rejection) = rejected(&rt, rt.alloc(), &[FIRST, later, SECOND])?;
     same(&rt, file, 1);
-    same(&rt, refusal.found.as_str(), "R");
+    same(&rt, rejection.found.as_str(), "R");
     Ok(())
 }
 
@@ -197,17 +197,17 @@ fn names_of_two_crates(rt: HostRuntime) -> Result<(), Fail> {
     same(&rt, error.homes.as_slice(), &[0, 1]);
     let trouble = error.trouble;
     match trouble {
-        Trouble::Refused(refusal) => {
-            same(&rt, refusal.found.as_str(), "A");
-            same(&rt, refusal.place.column, 19);
-            expect_in_refusal(&rt, &refusal, "has alone");
+        Trouble::Rejected(rejection) => {
+            same(&rt, rejection.found.as_str(), "A");
+            same(&rt, rejection.place.column, 19);
+            expect_in_rejection(&rt, &rejection, "has alone");
         }
         _ => panic!(rt; "not rejected"),
     }
     let own = "uint8 T; struct { select (H.t) { case 1: uint8 y; } } Q;";
-    let (file, refusal) = rejected(&rt, alloc, &[header, own])?;
+    let (file, rejection) = rejected(&rt, alloc, &[header, own])?;
     same(&rt, file, 1);
-    expect_in_refusal(&rt, &refusal, "no tag of another crate");
+    expect_in_rejection(&rt, &rejection, "no tag of another crate");
     Ok(())
 }
 
@@ -225,9 +225,9 @@ fn contexts_of_other_crates(rt: HostRuntime) -> Result<(), Fail> {
             "t",
         ),
     ] {
-        let (file, refusal) = rejected(&rt, rt.alloc(), &[other, own])?;
+        let (file, rejection) = rejected(&rt, rt.alloc(), &[other, own])?;
         same(&rt, file, 1);
-        same(&rt, refusal.found.as_str(), found);
+        same(&rt, rejection.found.as_str(), found);
     }
     Ok(())
 }

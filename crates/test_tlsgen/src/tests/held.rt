@@ -1,6 +1,6 @@
 // Tags that a field before holds: plans, by hand, and where and why texts are rejected.
 use super::shown::show;
-use super::{made, refusal, same, same_at};
+use super::{made, rejection, same, same_at};
 use std::test::Fail;
 
 static HELD: [(&str, &str); 9] = [
@@ -62,7 +62,7 @@ fn tags_that_a_field_holds(rt: HostRuntime) -> Result<(), Fail> {
 
 // Each row has a text that comes after two enums and a struct with a tag, the column, and what was
 // found and expected there.
-static REFUSED: [(&str, usize, &str, &str); 8] = [
+static REJECTED: [(&str, usize, &str, &str); 8] = [
     (
         "struct { select (t) { case a: uint8 y; case b: uint8 z; } } R; struct { T t; T u; R r; } S;",
         80,
@@ -114,15 +114,15 @@ static REFUSED: [(&str, usize, &str, &str); 8] = [
 ];
 
 #[test]
-fn refused_holders(rt: HostRuntime) -> Result<(), Fail> {
-    for (text, column, found, word) in &REFUSED {
+fn rejected_holders(rt: HostRuntime) -> Result<(), Fail> {
+    for (text, column, found, word) in &REJECTED {
         let whole = format!(in rt.alloc();
             "enum {{ a(1), b(2) }} T; struct {{ T t; }} H;\n{text}"
         )?;
-        let refusal = refusal(&rt, rt.alloc(), whole.as_str());
-        same_at(&rt, *text, refusal.found.as_str(), *found);
-        same_at(&rt, *text, refusal.place.column, *column);
-        same(&rt, refusal.expected.contains(word), true);
+        let rejection = rejection(&rt, rt.alloc(), whole.as_str());
+        same_at(&rt, *text, rejection.found.as_str(), *found);
+        same_at(&rt, *text, rejection.place.column, *column);
+        same(&rt, rejection.expected.contains(word), true);
     }
     Ok(())
 }

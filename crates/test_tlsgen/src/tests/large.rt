@@ -1,11 +1,11 @@
 // Texts that are long, or that would become long.
 use super::notes::read;
-use super::{expect_in_refusal, made, refusal, same};
+use super::{expect_in_rejection, made, rejection, same};
 use std::alloc::{AllocError, Global};
 use std::test::Fail;
 use tlsgen_resolve::planning::plan_within;
 use tlsgen_syntax::parser::parse;
-use tlsgen_syntax::refusal::Trouble;
+use tlsgen_syntax::rejection::Trouble;
 
 // `count` fields.
 fn fields(alloc: Global, count: usize) -> Result<String, AllocError> {
@@ -48,9 +48,9 @@ fn many(rt: HostRuntime) -> Result<(), Fail> {
             "18 fields",
         ),
     ] {
-        let refusal = refusal(&rt, alloc, text.as_str());
-        same(&rt, refusal.found.as_str(), found);
-        expect_in_refusal(&rt, &refusal, word);
+        let rejection = rejection(&rt, alloc, text.as_str());
+        same(&rt, rejection.found.as_str(), found);
+        expect_in_rejection(&rt, &rejection, word);
     }
     Ok(())
 }
@@ -69,15 +69,15 @@ fn copies_are_counted(rt: HostRuntime) -> Result<(), Fail> {
     let mut files = [file];
     same(&rt, plan_within(alloc, &mut files, 18).is_ok(), true);
     let Err(error) = plan_within(alloc, &mut files, 17) else {
-        panic!(rt; "not refused");
+        panic!(rt; "not rejected");
     };
     let trouble = error.trouble;
     match trouble {
-        Trouble::Refused(refusal) => {
-            expect_in_refusal(&rt, &refusal, "a smaller text");
+        Trouble::Rejected(rejection) => {
+            expect_in_rejection(&rt, &rejection, "a smaller text");
             Ok(())
         }
-        _ => panic!(rt; "not refused"),
+        _ => panic!(rt; "not rejected"),
     }
 }
 
@@ -130,8 +130,8 @@ fn structs(alloc: Global, count: usize) -> Result<String, AllocError> {
 #[test]
 fn more_than_may_be_in_all(rt: HostRuntime) -> Result<(), Fail> {
     let text = structs(rt.alloc(), 21)?;
-    let refusal = refusal(&rt, rt.alloc(), text.as_str());
-    expect_in_refusal(&rt, &refusal, "a smaller text");
+    let rejection = rejection(&rt, rt.alloc(), text.as_str());
+    expect_in_rejection(&rt, &rejection, "a smaller text");
     Ok(())
 }
 

@@ -7,7 +7,7 @@ use tlsgen_model::plan::Plan;
 use tlsgen_resolve::planning::plan_of;
 use tlsgen_syntax::noted::apply;
 use tlsgen_syntax::parser::{parse, parse_notes};
-use tlsgen_syntax::refusal::Trouble;
+use tlsgen_syntax::rejection::Trouble;
 
 // A text, its notes, and the plan.
 static NOTED: [(&str, &str, &str); 14] = [
@@ -93,7 +93,7 @@ static NOTED: [(&str, &str, &str); 14] = [
 ];
 
 // A text, its notes, the column and what was found and expected there.
-static REFUSED: [(&str, &str, usize, &str, &str); 35] = [
+static REJECTED: [(&str, &str, usize, &str, &str); 35] = [
     (
         "struct {} A;",
         "A.b counts rest;",
@@ -284,7 +284,7 @@ fn notes_beside_texts(rt: HostRuntime) -> Result<(), Fail> {
                 let shown = show(alloc, &plan)?;
                 same_at(&rt, *text, shown.as_str(), *wanted);
             }
-            Err(Trouble::Refused(refusal)) => panic!(rt; "{text}: {refusal}"),
+            Err(Trouble::Rejected(rejection)) => panic!(rt; "{text}: {rejection}"),
             Err(Trouble::Memory) => panic!(rt; "out of memory"),
             Err(Trouble::Inconsistent) => panic!(rt; "a fault of tlsgen"),
         }
@@ -293,15 +293,18 @@ fn notes_beside_texts(rt: HostRuntime) -> Result<(), Fail> {
 }
 
 #[test]
-fn refused_notes(rt: HostRuntime) -> Result<(), Fail> {
-    for (text, notes, column, found, expected) in &REFUSED {
+fn rejected_notes(rt: HostRuntime) -> Result<(), Fail> {
+    for (text, notes, column, found, expected) in &REJECTED {
         match read(rt.alloc(), text, notes) {
-            Err(Trouble::Refused(refusal)) => {
-                same_at(&rt, *notes, refusal.place.column, *column);
-                same_at(&rt, *notes, refusal.found.as_str(), *found);
-                assert!(rt; refusal.expected.contains(*expected), "{notes}: {refusal}");
+            Err(Trouble::Rejected(rejection)) => {
+                same_at(&rt, *notes, rejection.place.column, *column);
+                same_at(&rt, *notes, rejection.found.as_str(), *found);
+                assert!(rt;
+                    rejection.expected.contains(*expected),
+                    "{notes}: {rejection}"
+                );
             }
-            _ => panic!(rt; "not refused: {notes}"),
+            _ => panic!(rt; "not rejected: {notes}"),
         }
     }
     Ok(())

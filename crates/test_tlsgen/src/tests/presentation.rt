@@ -6,22 +6,22 @@ use std::test::Fail;
 use tlsgen_syntax::lexer::lex;
 use tlsgen_syntax::parser::parse_source;
 use tlsgen_syntax::print::print;
-use tlsgen_syntax::refusal::{Refusal, Trouble};
+use tlsgen_syntax::rejection::{Rejection, Trouble};
 use tlsgen_syntax::source::Source;
 
 fn source_of(rt: &impl Abort, alloc: Global, text: &str) -> Source {
     match parse_source(alloc, text) {
         Ok(source) => source,
-        Err(Trouble::Refused(refusal)) => panic!(rt; "{refusal}"),
+        Err(Trouble::Rejected(rejection)) => panic!(rt; "{rejection}"),
         Err(Trouble::Memory) => panic!(rt; "out of memory"),
         Err(Trouble::Inconsistent) => panic!(rt; "a fault of tlsgen"),
     }
 }
 
-pub fn refusal_of(rt: &impl Abort, alloc: Global, text: &str) -> Refusal {
+pub fn rejection_of(rt: &impl Abort, alloc: Global, text: &str) -> Rejection {
     match parse_source(alloc, text) {
         Ok(_) => panic!(rt; "it parses"),
-        Err(Trouble::Refused(refusal)) => refusal,
+        Err(Trouble::Rejected(rejection)) => rejection,
         Err(Trouble::Memory) => panic!(rt; "out of memory"),
         Err(Trouble::Inconsistent) => panic!(rt; "a fault of tlsgen"),
     }
@@ -165,16 +165,16 @@ fn numbers(rt: HostRuntime) -> Result<(), Fail> {
 }
 
 #[test]
-fn many_brackets_are_refused(rt: HostRuntime) -> Result<(), Fail> {
+fn many_brackets_are_rejected(rt: HostRuntime) -> Result<(), Fail> {
     for (byte, found) in [('{', "{"), ('<', "<")] {
         let mut text = String::new(rt.alloc());
         for _ in 0..1 << 17 {
             text.push(byte)?;
         }
-        let refusal = refusal_of(&rt, rt.alloc(), &text);
-        same(&rt, refusal.place.line, 1);
-        same(&rt, refusal.place.column, 1);
-        same(&rt, refusal.found.as_str(), found);
+        let rejection = rejection_of(&rt, rt.alloc(), &text);
+        same(&rt, rejection.place.line, 1);
+        same(&rt, rejection.place.column, 1);
+        same(&rt, rejection.found.as_str(), found);
     }
     Ok(())
 }

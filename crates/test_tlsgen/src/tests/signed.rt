@@ -1,6 +1,6 @@
 // What is signed, as a struct of its own: plans, by hand, and texts that are rejected.
 use super::shown::show;
-use super::{expect_in_refusal, made, refusal, same_at};
+use super::{expect_in_rejection, made, rejection, same_at};
 use std::test::Fail;
 
 /// Some of Certificate Transparency (RFC 6962, sections 3.2 and 3.5), with RFC 5246, section 4.7.
@@ -78,7 +78,7 @@ fn what_is_signed_is_apart(rt: HostRuntime) -> Result<(), Fail> {
 }
 
 // A text, the column, what was found there, and a word of what would be right.
-static REFUSED: [(&str, usize, &str, &str); 5] = [
+static REJECTED: [(&str, usize, &str, &str); 5] = [
     (
         "struct { digitally-signed struct { uint8 b; }; } A;",
         10,
@@ -113,12 +113,12 @@ static REFUSED: [(&str, usize, &str, &str); 5] = [
 ];
 
 #[test]
-fn refusals(rt: HostRuntime) -> Result<(), Fail> {
-    for (text, column, found, word) in &REFUSED {
-        let refusal = refusal(&rt, rt.alloc(), text);
-        same_at(&rt, *text, refusal.found.as_str(), *found);
-        same_at(&rt, *text, refusal.place.column, *column);
-        expect_in_refusal(&rt, &refusal, *word);
+fn rejections(rt: HostRuntime) -> Result<(), Fail> {
+    for (text, column, found, word) in &REJECTED {
+        let rejection = rejection(&rt, rt.alloc(), text);
+        same_at(&rt, *text, rejection.found.as_str(), *found);
+        same_at(&rt, *text, rejection.place.column, *column);
+        expect_in_rejection(&rt, &rejection, *word);
     }
     Ok(())
 }

@@ -1,5 +1,5 @@
 // Texts that aren't in the language.
-use super::presentation::refusal_of;
+use super::presentation::rejection_of;
 use super::same_at;
 use std::test::Fail;
 
@@ -231,13 +231,13 @@ static BAD: [(&str, usize, usize, &str, &str); 53] = [
 ];
 
 #[test]
-fn refusals(rt: HostRuntime) -> Result<(), Fail> {
+fn rejections(rt: HostRuntime) -> Result<(), Fail> {
     for (text, line, column, found, expected) in &BAD {
-        let refusal = refusal_of(&rt, rt.alloc(), text);
-        same_at(&rt, *text, refusal.place.line, *line);
-        same_at(&rt, *text, refusal.place.column, *column);
-        same_at(&rt, *text, refusal.found.as_str(), *found);
-        same_at(&rt, *text, refusal.expected, *expected);
+        let rejection = rejection_of(&rt, rt.alloc(), text);
+        same_at(&rt, *text, rejection.place.line, *line);
+        same_at(&rt, *text, rejection.place.column, *column);
+        same_at(&rt, *text, rejection.found.as_str(), *found);
+        same_at(&rt, *text, rejection.expected, *expected);
     }
     Ok(())
 }

@@ -1,5 +1,5 @@
 // Words of Rust and of the presentation language, as each kind of name.
-use super::{made, refusal, same_at};
+use super::{made, rejection, same_at};
 use std::alloc::Global;
 use std::process::Abort;
 use std::test::Fail;
@@ -232,8 +232,8 @@ fn words_that_are_no_names(rt: HostRuntime) -> Result<(), Fail> {
             format!(in alloc; "struct {{ uint8 {word}; }} S;")?,
             format!(in alloc; "enum {{ {word}(1), (255) }} T;")?,
         ] {
-            let refusal = refusal(&rt, alloc, text.as_str());
-            same_at(&rt, text.as_str(), refusal.found.as_str(), word);
+            let rejection = rejection(&rt, alloc, text.as_str());
+            same_at(&rt, text.as_str(), rejection.found.as_str(), word);
         }
     }
     Ok(())

@@ -4,7 +4,7 @@ use std::alloc::{AllocError, Global};
 use std::collections::BTreeMap;
 use tlsgen_syntax::noted::apply;
 use tlsgen_syntax::parser::{parse, parse_notes};
-use tlsgen_syntax::refusal::Trouble;
+use tlsgen_syntax::rejection::Trouble;
 use tlsgen_syntax::syntax::{Enum, Field, File, Item, Note, Said, Struct, Value};
 
 /// The definitions of some texts, by their names. If two have the same name, the first one counts.

@@ -2,7 +2,7 @@
 ghost use Rattle.std.specs.Prelude.{◌≡◌, ◌<◌, ◌≤◌, IfOk, OnOk};
 ghost use Rattle.tlsgen_syntax.specs.Signs.{Reads, count_left, numbers_then, range_end_then, separated_then, signs_left, source_enum_then, source_value_then, value_name_then};
 
-use crate::refusal::Trouble;
+use crate::rejection::Trouble;
 use crate::source::{Numbers, SourceEnum, SourceValue, ValueName};
 use crate::syntax::Number;
 use crate::token::Mark;

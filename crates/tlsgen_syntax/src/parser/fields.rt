@@ -3,7 +3,7 @@ ghost use Rattle.std.specs.Prelude.{◌≡◌, ◌<◌, ◌≤◌, ◌∷◌, If
 ghost use Rattle.tlsgen_syntax.specs.Signs.{Reads, IsCalled, case_field_then, constant_then, constant_value_then, count_left, field_then, mark, number_then, separated_then, signs_left, type_then, typed_then, vector_then};
 
 use crate::parser::selects::path;
-use crate::refusal::Trouble;
+use crate::rejection::Trouble;
 use crate::syntax::{Constant, Field, Name, Number, Vector};
 use crate::token::Mark;
 use crate::tokens::Tokens;

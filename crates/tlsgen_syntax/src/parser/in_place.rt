@@ -5,7 +5,7 @@ ghost use Rattle.tlsgen_syntax.specs.Signs.{Reads, count_left, in_place_then, ty
 use crate::parser::enums::numbers;
 use crate::parser::fields::vector;
 use crate::parser::structs::parts;
-use crate::refusal::Trouble;
+use crate::rejection::Trouble;
 use crate::source::{InPlace, TypeInPlace};
 use crate::token::Mark;
 use crate::tokens::Tokens;

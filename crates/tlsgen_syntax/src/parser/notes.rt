@@ -3,7 +3,7 @@ ghost use Rattle.std.specs.Prelude.{◌≡◌, ◌<◌, ◌∷◌, IfOk, OnOk, c
 ghost use Rattle.tlsgen_syntax.specs.Signs.{Reads, count_left, mark, note_then, notes_signs, said_then, signs, signs_left, word};
 
 use crate::parser::selects::path;
-use crate::refusal::{Place, Trouble};
+use crate::rejection::{Place, Trouble};
 use crate::syntax::{Note, Said};
 use crate::token::{Mark, Token};
 use crate::tokens::Tokens;
@@ -62,7 +62,7 @@ fn said(alloc: Global, tokens: &mut Tokens<'_>) -> Result<Said, Trouble>
         expect_word(alloc, tokens, "out")?;
         return Ok(Said::LeftOut);
     }
-    Err(tokens.refused(alloc, "., =, counts, fills, ends, called, is or left"))
+    Err(tokens.rejected(alloc, "., =, counts, fills, ends, called, is or left"))
 }
 
 // `"rest" ["with" "zeros"]`
@@ -103,7 +103,7 @@ fn expect_word(alloc: Global, tokens: &mut Tokens<'_>, text: &'static str) -> Re
     if tokens.take_word(text) {
         return Ok(());
     }
-    Err(tokens.refused(alloc, text))
+    Err(tokens.rejected(alloc, text))
 }
 
 // `NUMBER | NAME`

@@ -3,7 +3,7 @@ ghost use Rattle.std.specs.Prelude.{◌≡◌, ◌<◌, ◌≤◌, ◌∷◌, If
 ghost use Rattle.tlsgen_syntax.specs.Signs.{Reads, case_fields_then, case_then, count_left, each_then, label_then, label_value_then, mark, name_then, optional_name_then, select_then, separated_then, signs_left};
 
 use crate::parser::fields::case_field;
-use crate::refusal::Trouble;
+use crate::rejection::Trouble;
 use crate::syntax::{Case, Field, Label, Name, Select};
 use crate::token::Mark;
 use crate::tokens::Tokens;

@@ -5,7 +5,7 @@ ghost use Rattle.tlsgen_syntax.specs.Signs.{Reads, count_left, each_then, kind_t
 use crate::parser::fields::field;
 use crate::parser::in_place::in_place;
 use crate::parser::selects::{ending_name, select};
-use crate::refusal::Trouble;
+use crate::rejection::Trouble;
 use crate::source::{Signed, SourcePart, SourceStruct, StructKind};
 use crate::syntax::Part;
 use crate::token::Mark;
@@ -104,7 +104,7 @@ fn part(alloc: Global, tokens: &mut Tokens<'_>) -> Result<Part, Trouble>
 {
     match tokens.mark() {
         Some(Mark::Select) => Ok(Part::Select(select(alloc, tokens)?)),
-        Some(Mark::Open | Mark::Enum | Mark::Struct) => Err(tokens.refused(
+        Some(Mark::Open | Mark::Enum | Mark::Struct) => Err(tokens.rejected(
             alloc,
             "the name of a type: an enum or a struct may stand in a struct that is a definition",
         )),

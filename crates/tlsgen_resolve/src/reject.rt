@@ -1,11 +1,11 @@
 //! How a text is rejected.
 use std::alloc::Global;
-use tlsgen_syntax::refusal::{Place, Refusal, Trouble};
+use tlsgen_syntax::rejection::{Place, Rejection, Trouble};
 
 /// The error that rejects what a text has at a place.
-pub fn refused(alloc: Global, place: Place, found: &str, expected: &'static str) -> Trouble {
+pub fn rejected(alloc: Global, place: Place, found: &str, expected: &'static str) -> Trouble {
     match String::from_str(alloc, found) {
-        Ok(found) => Trouble::Refused(Refusal {
+        Ok(found) => Trouble::Rejected(Rejection {
             place,
             found,
             expected,
@@ -28,7 +28,7 @@ impl Budget {
     /// Takes one of what is left. Rejects `found` at `place` if nothing is left.
     pub fn take(&mut self, alloc: Global, place: Place, found: &str) -> Result<(), Trouble> {
         if self.left == 0 {
-            return Err(refused(
+            return Err(rejected(
                 alloc,
                 place,
                 found,

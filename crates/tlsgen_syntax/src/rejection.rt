@@ -1,6 +1,6 @@
 //! Where and why a text is rejected.
 ghost use Rattle.std.specs.Prelude.{◌≡◌};
-ghost use Rattle.tlsgen_syntax.specs.declared.refusal.Trouble.TheVariants.{Memory};
+ghost use Rattle.tlsgen_syntax.specs.declared.rejection.Trouble.TheVariants.{Memory};
 
 use std::alloc::{AllocError, AllocFailed};
 use std::fmt;
@@ -42,7 +42,7 @@ impl Place {
 ///
 /// It prints as `line 3, column 7: found ";", expected the name of a type`.
 #[derive(Drop)]
-pub struct Refusal {
+pub struct Rejection {
     pub place: Place,
     /// What the text has there: a word, a number or a mark. Nothing at its end.
     pub found: String,
@@ -50,7 +50,7 @@ pub struct Refusal {
     pub expected: &'static str,
 }
 
-impl fmt::Display for Refusal {
+impl fmt::Display for Rejection {
     fn fmt<W: fmt::Write>(&self, f: &mut fmt::Formatter<W>) -> fmt::Result {
         let line = self.place.line;
         let column = self.place.column;
@@ -73,7 +73,7 @@ impl fmt::Display for Refusal {
 #[derive(Drop)]
 pub enum Trouble {
     /// The text is rejected.
-    Refused(Refusal),
+    Rejected(Rejection),
     /// Memory was refused.
     Memory,
     /// A fault of the generator, and not of the text: what it made isn't as its own code expects.
@@ -88,7 +88,7 @@ impl Trouble {
         expected: &'static str,
     ) -> Trouble {
         match found {
-            Ok(found) => Trouble::Refused(Refusal {
+            Ok(found) => Trouble::Rejected(Rejection {
                 place,
                 found,
                 expected,
