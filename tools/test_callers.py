@@ -177,7 +177,7 @@ def mix(room: Room) -> None:
     folder = room.folder / "mix"
     shutil.copytree(room.archives, folder)
     shutil.copy(room.shared_object(), folder)
-    call = [sys.executable, "-c", "import sys, tls_codec; tls_codec.Validators(sys.argv[1])", folder / SHARED]
+    call = [sys.executable, "-c", "import sys, tls_codec_validators; tls_codec_validators.Validators(sys.argv[1])", folder / SHARED]
     env = {**os.environ, "TLS_CODEC_ARCHIVES": str(folder.resolve()), "CARGO_TARGET_DIR": str(room.folder / "mixed")}
     env["PYTHONPATH"] = str(PYTHON)
     room.run(call, env=env)

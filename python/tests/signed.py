@@ -1,6 +1,6 @@
 #!/usr/bin/env python3
-"""signed.py OBJECT FILE: what is written to be signed, for each row of c/tests/signed.tsv, by the module tls_codec. The status is 1 if a
-row differs.
+"""signed.py OBJECT FILE: what is written to be signed, for each row of c/tests/signed.tsv, by the module tls_codec_validators. The status
+is 1 if a row differs.
 
 A wire format that has more than 16 bits is refused.
 """

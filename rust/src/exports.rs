@@ -1158,145 +1158,145 @@ pub mod tls13_decode {
 
     /// `TLSPlaintext` (RFC 8446, section 5.1): whether `bytes` are one, with nothing after it, by
     /// the decoder.
-    pub fn decode_check_tls13_tls_plaintext(bytes: &[u8]) -> Result<(), Error> {
+    pub fn decode_check_tls_plaintext(bytes: &[u8]) -> Result<(), Error> {
         whole(bytes, foreign::tls13_tls_plaintext_decode_check_prefix).map_err(|it| it.error)
     }
 
     /// `TLSPlaintext` (RFC 8446, section 5.1): returns the bytes of the one that `bytes` begin
     /// with, and the rest, by the decoder.
-    pub fn decode_check_tls13_tls_plaintext_prefix(bytes: &[u8]) -> Result<(&[u8], &[u8]), Error> {
+    pub fn decode_check_tls_plaintext_prefix(bytes: &[u8]) -> Result<(&[u8], &[u8]), Error> {
         split(bytes, foreign::tls13_tls_plaintext_decode_check_prefix).map_err(|it| it.error)
     }
 
     /// `TLSCiphertext` (RFC 8446, section 5.2): whether `bytes` are one, with nothing after it, by
     /// the decoder.
-    pub fn decode_check_tls13_tls_ciphertext(bytes: &[u8]) -> Result<(), Error> {
+    pub fn decode_check_tls_ciphertext(bytes: &[u8]) -> Result<(), Error> {
         whole(bytes, foreign::tls13_tls_ciphertext_decode_check_prefix).map_err(|it| it.error)
     }
 
     /// `TLSCiphertext` (RFC 8446, section 5.2): returns the bytes of the one that `bytes` begin
     /// with, and the rest, by the decoder.
-    pub fn decode_check_tls13_tls_ciphertext_prefix(bytes: &[u8]) -> Result<(&[u8], &[u8]), Error> {
+    pub fn decode_check_tls_ciphertext_prefix(bytes: &[u8]) -> Result<(&[u8], &[u8]), Error> {
         split(bytes, foreign::tls13_tls_ciphertext_decode_check_prefix).map_err(|it| it.error)
     }
 
     /// `Alert` (RFC 8446, section 6): whether `bytes` are one, with nothing after it, by the
     /// decoder.
-    pub fn decode_check_tls13_alert(bytes: &[u8]) -> Result<(), Error> {
+    pub fn decode_check_alert(bytes: &[u8]) -> Result<(), Error> {
         whole(bytes, foreign::tls13_alert_decode_check_prefix).map_err(|it| it.error)
     }
 
     /// `Alert` (RFC 8446, section 6): returns the bytes of the one that `bytes` begin with, and the
     /// rest, by the decoder.
-    pub fn decode_check_tls13_alert_prefix(bytes: &[u8]) -> Result<(&[u8], &[u8]), Error> {
+    pub fn decode_check_alert_prefix(bytes: &[u8]) -> Result<(&[u8], &[u8]), Error> {
         split(bytes, foreign::tls13_alert_decode_check_prefix).map_err(|it| it.error)
     }
 
     /// `Handshake` (RFC 8446, section 4): whether `bytes` are one, with nothing after it, by the
     /// decoder.
-    pub fn decode_check_tls13_handshake(bytes: &[u8]) -> Result<(), Error> {
+    pub fn decode_check_handshake(bytes: &[u8]) -> Result<(), Error> {
         whole(bytes, foreign::tls13_handshake_decode_check_prefix).map_err(|it| it.error)
     }
 
     /// `Handshake` (RFC 8446, section 4): returns the bytes of the one that `bytes` begin with, and
     /// the rest, by the decoder.
-    pub fn decode_check_tls13_handshake_prefix(bytes: &[u8]) -> Result<(&[u8], &[u8]), Error> {
+    pub fn decode_check_handshake_prefix(bytes: &[u8]) -> Result<(&[u8], &[u8]), Error> {
         split(bytes, foreign::tls13_handshake_decode_check_prefix).map_err(|it| it.error)
     }
 
     /// `ClientHello` (RFC 8446, section 4.1.2): whether `bytes` are one, with nothing after it, by
     /// the decoder.
-    pub fn decode_check_tls13_client_hello(bytes: &[u8]) -> Result<(), Error> {
+    pub fn decode_check_client_hello(bytes: &[u8]) -> Result<(), Error> {
         whole(bytes, foreign::tls13_client_hello_decode_check_prefix).map_err(|it| it.error)
     }
 
     /// `ClientHello` (RFC 8446, section 4.1.2): returns the bytes of the one that `bytes` begin
     /// with, and the rest, by the decoder.
-    pub fn decode_check_tls13_client_hello_prefix(bytes: &[u8]) -> Result<(&[u8], &[u8]), Error> {
+    pub fn decode_check_client_hello_prefix(bytes: &[u8]) -> Result<(&[u8], &[u8]), Error> {
         split(bytes, foreign::tls13_client_hello_decode_check_prefix).map_err(|it| it.error)
     }
 
     /// `ServerHello` (RFC 8446, section 4.1.3): whether `bytes` are one, with nothing after it, by
     /// the decoder.
-    pub fn decode_check_tls13_server_hello(bytes: &[u8]) -> Result<(), Error> {
+    pub fn decode_check_server_hello(bytes: &[u8]) -> Result<(), Error> {
         whole(bytes, foreign::tls13_server_hello_decode_check_prefix).map_err(|it| it.error)
     }
 
     /// `ServerHello` (RFC 8446, section 4.1.3): returns the bytes of the one that `bytes` begin
     /// with, and the rest, by the decoder.
-    pub fn decode_check_tls13_server_hello_prefix(bytes: &[u8]) -> Result<(&[u8], &[u8]), Error> {
+    pub fn decode_check_server_hello_prefix(bytes: &[u8]) -> Result<(&[u8], &[u8]), Error> {
         split(bytes, foreign::tls13_server_hello_decode_check_prefix).map_err(|it| it.error)
     }
 
     /// `EncryptedExtensions` (RFC 8446, section 4.3.1): whether `bytes` are one, with nothing after
     /// it, by the decoder.
-    pub fn decode_check_tls13_encrypted_extensions(bytes: &[u8]) -> Result<(), Error> {
+    pub fn decode_check_encrypted_extensions(bytes: &[u8]) -> Result<(), Error> {
         whole(bytes, foreign::tls13_encrypted_extensions_decode_check_prefix).map_err(|it| it.error)
     }
 
     /// `EncryptedExtensions` (RFC 8446, section 4.3.1): returns the bytes of the one that `bytes`
     /// begin with, and the rest, by the decoder.
-    pub fn decode_check_tls13_encrypted_extensions_prefix(bytes: &[u8]) -> Result<(&[u8], &[u8]), Error> {
+    pub fn decode_check_encrypted_extensions_prefix(bytes: &[u8]) -> Result<(&[u8], &[u8]), Error> {
         split(bytes, foreign::tls13_encrypted_extensions_decode_check_prefix).map_err(|it| it.error)
     }
 
     /// `CertificateRequest` (RFC 8446, section 4.3.2): whether `bytes` are one, with nothing after
     /// it, by the decoder.
-    pub fn decode_check_tls13_certificate_request(bytes: &[u8]) -> Result<(), Error> {
+    pub fn decode_check_certificate_request(bytes: &[u8]) -> Result<(), Error> {
         whole(bytes, foreign::tls13_certificate_request_decode_check_prefix).map_err(|it| it.error)
     }
 
     /// `CertificateRequest` (RFC 8446, section 4.3.2): returns the bytes of the one that `bytes`
     /// begin with, and the rest, by the decoder.
-    pub fn decode_check_tls13_certificate_request_prefix(bytes: &[u8]) -> Result<(&[u8], &[u8]), Error> {
+    pub fn decode_check_certificate_request_prefix(bytes: &[u8]) -> Result<(&[u8], &[u8]), Error> {
         split(bytes, foreign::tls13_certificate_request_decode_check_prefix).map_err(|it| it.error)
     }
 
     /// `Certificate` (RFC 8446, section 4.4.2): whether `bytes` are one, with nothing after it, by
     /// the decoder.
-    pub fn decode_check_tls13_certificate(bytes: &[u8]) -> Result<(), Error> {
+    pub fn decode_check_certificate(bytes: &[u8]) -> Result<(), Error> {
         whole(bytes, foreign::tls13_certificate_decode_check_prefix).map_err(|it| it.error)
     }
 
     /// `Certificate` (RFC 8446, section 4.4.2): returns the bytes of the one that `bytes` begin
     /// with, and the rest, by the decoder.
-    pub fn decode_check_tls13_certificate_prefix(bytes: &[u8]) -> Result<(&[u8], &[u8]), Error> {
+    pub fn decode_check_certificate_prefix(bytes: &[u8]) -> Result<(&[u8], &[u8]), Error> {
         split(bytes, foreign::tls13_certificate_decode_check_prefix).map_err(|it| it.error)
     }
 
     /// `CertificateVerify` (RFC 8446, section 4.4.3): whether `bytes` are one, with nothing after
     /// it, by the decoder.
-    pub fn decode_check_tls13_certificate_verify(bytes: &[u8]) -> Result<(), Error> {
+    pub fn decode_check_certificate_verify(bytes: &[u8]) -> Result<(), Error> {
         whole(bytes, foreign::tls13_certificate_verify_decode_check_prefix).map_err(|it| it.error)
     }
 
     /// `CertificateVerify` (RFC 8446, section 4.4.3): returns the bytes of the one that `bytes`
     /// begin with, and the rest, by the decoder.
-    pub fn decode_check_tls13_certificate_verify_prefix(bytes: &[u8]) -> Result<(&[u8], &[u8]), Error> {
+    pub fn decode_check_certificate_verify_prefix(bytes: &[u8]) -> Result<(&[u8], &[u8]), Error> {
         split(bytes, foreign::tls13_certificate_verify_decode_check_prefix).map_err(|it| it.error)
     }
 
     /// `NewSessionTicket` (RFC 8446, section 4.6.1): whether `bytes` are one, with nothing after
     /// it, by the decoder.
-    pub fn decode_check_tls13_new_session_ticket(bytes: &[u8]) -> Result<(), Error> {
+    pub fn decode_check_new_session_ticket(bytes: &[u8]) -> Result<(), Error> {
         whole(bytes, foreign::tls13_new_session_ticket_decode_check_prefix).map_err(|it| it.error)
     }
 
     /// `NewSessionTicket` (RFC 8446, section 4.6.1): returns the bytes of the one that `bytes`
     /// begin with, and the rest, by the decoder.
-    pub fn decode_check_tls13_new_session_ticket_prefix(bytes: &[u8]) -> Result<(&[u8], &[u8]), Error> {
+    pub fn decode_check_new_session_ticket_prefix(bytes: &[u8]) -> Result<(&[u8], &[u8]), Error> {
         split(bytes, foreign::tls13_new_session_ticket_decode_check_prefix).map_err(|it| it.error)
     }
 
     /// `KeyUpdate` (RFC 8446, section 4.6.3): whether `bytes` are one, with nothing after it, by
     /// the decoder.
-    pub fn decode_check_tls13_key_update(bytes: &[u8]) -> Result<(), Error> {
+    pub fn decode_check_key_update(bytes: &[u8]) -> Result<(), Error> {
         whole(bytes, foreign::tls13_key_update_decode_check_prefix).map_err(|it| it.error)
     }
 
     /// `KeyUpdate` (RFC 8446, section 4.6.3): returns the bytes of the one that `bytes` begin with,
     /// and the rest, by the decoder.
-    pub fn decode_check_tls13_key_update_prefix(bytes: &[u8]) -> Result<(&[u8], &[u8]), Error> {
+    pub fn decode_check_key_update_prefix(bytes: &[u8]) -> Result<(&[u8], &[u8]), Error> {
         split(bytes, foreign::tls13_key_update_decode_check_prefix).map_err(|it| it.error)
     }
 }
@@ -2373,169 +2373,169 @@ pub mod mls_decode {
 
     /// `MLSMessage` (RFC 9420, section 6): whether `bytes` are one, with nothing after it, by the
     /// decoder.
-    pub fn decode_check_mls_message(bytes: &[u8]) -> Result<(), Error> {
+    pub fn decode_check_message(bytes: &[u8]) -> Result<(), Error> {
         whole(bytes, foreign::mls_message_decode_check_prefix).map_err(|it| it.error)
     }
 
     /// `MLSMessage` (RFC 9420, section 6): returns the bytes of the one that `bytes` begin with,
     /// and the rest, by the decoder.
-    pub fn decode_check_mls_message_prefix(bytes: &[u8]) -> Result<(&[u8], &[u8]), Error> {
+    pub fn decode_check_message_prefix(bytes: &[u8]) -> Result<(&[u8], &[u8]), Error> {
         split(bytes, foreign::mls_message_decode_check_prefix).map_err(|it| it.error)
     }
 
     /// `PublicMessage` (RFC 9420, section 6.2): whether `bytes` are one, with nothing after it, by
     /// the decoder.
-    pub fn decode_check_mls_public_message(bytes: &[u8]) -> Result<(), Error> {
+    pub fn decode_check_public_message(bytes: &[u8]) -> Result<(), Error> {
         whole(bytes, foreign::mls_public_message_decode_check_prefix).map_err(|it| it.error)
     }
 
     /// `PublicMessage` (RFC 9420, section 6.2): returns the bytes of the one that `bytes` begin
     /// with, and the rest, by the decoder.
-    pub fn decode_check_mls_public_message_prefix(bytes: &[u8]) -> Result<(&[u8], &[u8]), Error> {
+    pub fn decode_check_public_message_prefix(bytes: &[u8]) -> Result<(&[u8], &[u8]), Error> {
         split(bytes, foreign::mls_public_message_decode_check_prefix).map_err(|it| it.error)
     }
 
     /// `PrivateMessage` (RFC 9420, section 6.3): whether `bytes` are one, with nothing after it, by
     /// the decoder.
-    pub fn decode_check_mls_private_message(bytes: &[u8]) -> Result<(), Error> {
+    pub fn decode_check_private_message(bytes: &[u8]) -> Result<(), Error> {
         whole(bytes, foreign::mls_private_message_decode_check_prefix).map_err(|it| it.error)
     }
 
     /// `PrivateMessage` (RFC 9420, section 6.3): returns the bytes of the one that `bytes` begin
     /// with, and the rest, by the decoder.
-    pub fn decode_check_mls_private_message_prefix(bytes: &[u8]) -> Result<(&[u8], &[u8]), Error> {
+    pub fn decode_check_private_message_prefix(bytes: &[u8]) -> Result<(&[u8], &[u8]), Error> {
         split(bytes, foreign::mls_private_message_decode_check_prefix).map_err(|it| it.error)
     }
 
     /// `FramedContent` (RFC 9420, section 6): whether `bytes` are one, with nothing after it, by
     /// the decoder.
-    pub fn decode_check_mls_framed_content(bytes: &[u8]) -> Result<(), Error> {
+    pub fn decode_check_framed_content(bytes: &[u8]) -> Result<(), Error> {
         whole(bytes, foreign::mls_framed_content_decode_check_prefix).map_err(|it| it.error)
     }
 
     /// `FramedContent` (RFC 9420, section 6): returns the bytes of the one that `bytes` begin with,
     /// and the rest, by the decoder.
-    pub fn decode_check_mls_framed_content_prefix(bytes: &[u8]) -> Result<(&[u8], &[u8]), Error> {
+    pub fn decode_check_framed_content_prefix(bytes: &[u8]) -> Result<(&[u8], &[u8]), Error> {
         split(bytes, foreign::mls_framed_content_decode_check_prefix).map_err(|it| it.error)
     }
 
     /// `SenderData` (RFC 9420, section 6.3.2): whether `bytes` are one, with nothing after it, by
     /// the decoder.
-    pub fn decode_check_mls_sender_data(bytes: &[u8]) -> Result<(), Error> {
+    pub fn decode_check_sender_data(bytes: &[u8]) -> Result<(), Error> {
         whole(bytes, foreign::mls_sender_data_decode_check_prefix).map_err(|it| it.error)
     }
 
     /// `SenderData` (RFC 9420, section 6.3.2): returns the bytes of the one that `bytes` begin
     /// with, and the rest, by the decoder.
-    pub fn decode_check_mls_sender_data_prefix(bytes: &[u8]) -> Result<(&[u8], &[u8]), Error> {
+    pub fn decode_check_sender_data_prefix(bytes: &[u8]) -> Result<(&[u8], &[u8]), Error> {
         split(bytes, foreign::mls_sender_data_decode_check_prefix).map_err(|it| it.error)
     }
 
     /// `Welcome` (RFC 9420, section 12.4.3.1): whether `bytes` are one, with nothing after it, by
     /// the decoder.
-    pub fn decode_check_mls_welcome(bytes: &[u8]) -> Result<(), Error> {
+    pub fn decode_check_welcome(bytes: &[u8]) -> Result<(), Error> {
         whole(bytes, foreign::mls_welcome_decode_check_prefix).map_err(|it| it.error)
     }
 
     /// `Welcome` (RFC 9420, section 12.4.3.1): returns the bytes of the one that `bytes` begin
     /// with, and the rest, by the decoder.
-    pub fn decode_check_mls_welcome_prefix(bytes: &[u8]) -> Result<(&[u8], &[u8]), Error> {
+    pub fn decode_check_welcome_prefix(bytes: &[u8]) -> Result<(&[u8], &[u8]), Error> {
         split(bytes, foreign::mls_welcome_decode_check_prefix).map_err(|it| it.error)
     }
 
     /// `GroupSecrets` (RFC 9420, section 12.4.3.1): whether `bytes` are one, with nothing after it,
     /// by the decoder.
-    pub fn decode_check_mls_group_secrets(bytes: &[u8]) -> Result<(), Error> {
+    pub fn decode_check_group_secrets(bytes: &[u8]) -> Result<(), Error> {
         whole(bytes, foreign::mls_group_secrets_decode_check_prefix).map_err(|it| it.error)
     }
 
     /// `GroupSecrets` (RFC 9420, section 12.4.3.1): returns the bytes of the one that `bytes` begin
     /// with, and the rest, by the decoder.
-    pub fn decode_check_mls_group_secrets_prefix(bytes: &[u8]) -> Result<(&[u8], &[u8]), Error> {
+    pub fn decode_check_group_secrets_prefix(bytes: &[u8]) -> Result<(&[u8], &[u8]), Error> {
         split(bytes, foreign::mls_group_secrets_decode_check_prefix).map_err(|it| it.error)
     }
 
     /// `GroupInfo` (RFC 9420, section 12.4.3): whether `bytes` are one, with nothing after it, by
     /// the decoder.
-    pub fn decode_check_mls_group_info(bytes: &[u8]) -> Result<(), Error> {
+    pub fn decode_check_group_info(bytes: &[u8]) -> Result<(), Error> {
         whole(bytes, foreign::mls_group_info_decode_check_prefix).map_err(|it| it.error)
     }
 
     /// `GroupInfo` (RFC 9420, section 12.4.3): returns the bytes of the one that `bytes` begin
     /// with, and the rest, by the decoder.
-    pub fn decode_check_mls_group_info_prefix(bytes: &[u8]) -> Result<(&[u8], &[u8]), Error> {
+    pub fn decode_check_group_info_prefix(bytes: &[u8]) -> Result<(&[u8], &[u8]), Error> {
         split(bytes, foreign::mls_group_info_decode_check_prefix).map_err(|it| it.error)
     }
 
     /// `GroupContext` (RFC 9420, section 8.1): whether `bytes` are one, with nothing after it, by
     /// the decoder.
-    pub fn decode_check_mls_group_context(bytes: &[u8]) -> Result<(), Error> {
+    pub fn decode_check_group_context(bytes: &[u8]) -> Result<(), Error> {
         whole(bytes, foreign::mls_group_context_decode_check_prefix).map_err(|it| it.error)
     }
 
     /// `GroupContext` (RFC 9420, section 8.1): returns the bytes of the one that `bytes` begin
     /// with, and the rest, by the decoder.
-    pub fn decode_check_mls_group_context_prefix(bytes: &[u8]) -> Result<(&[u8], &[u8]), Error> {
+    pub fn decode_check_group_context_prefix(bytes: &[u8]) -> Result<(&[u8], &[u8]), Error> {
         split(bytes, foreign::mls_group_context_decode_check_prefix).map_err(|it| it.error)
     }
 
     /// `Commit` (RFC 9420, section 12.4): whether `bytes` are one, with nothing after it, by the
     /// decoder.
-    pub fn decode_check_mls_commit(bytes: &[u8]) -> Result<(), Error> {
+    pub fn decode_check_commit(bytes: &[u8]) -> Result<(), Error> {
         whole(bytes, foreign::mls_commit_decode_check_prefix).map_err(|it| it.error)
     }
 
     /// `Commit` (RFC 9420, section 12.4): returns the bytes of the one that `bytes` begin with, and
     /// the rest, by the decoder.
-    pub fn decode_check_mls_commit_prefix(bytes: &[u8]) -> Result<(&[u8], &[u8]), Error> {
+    pub fn decode_check_commit_prefix(bytes: &[u8]) -> Result<(&[u8], &[u8]), Error> {
         split(bytes, foreign::mls_commit_decode_check_prefix).map_err(|it| it.error)
     }
 
     /// `Proposal` (RFC 9420, section 12.1): whether `bytes` are one, with nothing after it, by the
     /// decoder.
-    pub fn decode_check_mls_proposal(bytes: &[u8]) -> Result<(), Error> {
+    pub fn decode_check_proposal(bytes: &[u8]) -> Result<(), Error> {
         whole(bytes, foreign::mls_proposal_decode_check_prefix).map_err(|it| it.error)
     }
 
     /// `Proposal` (RFC 9420, section 12.1): returns the bytes of the one that `bytes` begin with,
     /// and the rest, by the decoder.
-    pub fn decode_check_mls_proposal_prefix(bytes: &[u8]) -> Result<(&[u8], &[u8]), Error> {
+    pub fn decode_check_proposal_prefix(bytes: &[u8]) -> Result<(&[u8], &[u8]), Error> {
         split(bytes, foreign::mls_proposal_decode_check_prefix).map_err(|it| it.error)
     }
 
     /// `KeyPackage` (RFC 9420, section 10): whether `bytes` are one, with nothing after it, by the
     /// decoder.
-    pub fn decode_check_mls_key_package(bytes: &[u8]) -> Result<(), Error> {
+    pub fn decode_check_key_package(bytes: &[u8]) -> Result<(), Error> {
         whole(bytes, foreign::mls_key_package_decode_check_prefix).map_err(|it| it.error)
     }
 
     /// `KeyPackage` (RFC 9420, section 10): returns the bytes of the one that `bytes` begin with,
     /// and the rest, by the decoder.
-    pub fn decode_check_mls_key_package_prefix(bytes: &[u8]) -> Result<(&[u8], &[u8]), Error> {
+    pub fn decode_check_key_package_prefix(bytes: &[u8]) -> Result<(&[u8], &[u8]), Error> {
         split(bytes, foreign::mls_key_package_decode_check_prefix).map_err(|it| it.error)
     }
 
     /// `LeafNode` (RFC 9420, section 7.2): whether `bytes` are one, with nothing after it, by the
     /// decoder.
-    pub fn decode_check_mls_leaf_node(bytes: &[u8]) -> Result<(), Error> {
+    pub fn decode_check_leaf_node(bytes: &[u8]) -> Result<(), Error> {
         whole(bytes, foreign::mls_leaf_node_decode_check_prefix).map_err(|it| it.error)
     }
 
     /// `LeafNode` (RFC 9420, section 7.2): returns the bytes of the one that `bytes` begin with,
     /// and the rest, by the decoder.
-    pub fn decode_check_mls_leaf_node_prefix(bytes: &[u8]) -> Result<(&[u8], &[u8]), Error> {
+    pub fn decode_check_leaf_node_prefix(bytes: &[u8]) -> Result<(&[u8], &[u8]), Error> {
         split(bytes, foreign::mls_leaf_node_decode_check_prefix).map_err(|it| it.error)
     }
 
     /// `RatchetTree` (RFC 9420, section 12.4.3.3): whether `bytes` are one, with nothing after it,
     /// by the decoder.
-    pub fn decode_check_mls_ratchet_tree(bytes: &[u8]) -> Result<(), Error> {
+    pub fn decode_check_ratchet_tree(bytes: &[u8]) -> Result<(), Error> {
         whole(bytes, foreign::mls_ratchet_tree_decode_check_prefix).map_err(|it| it.error)
     }
 
     /// `RatchetTree` (RFC 9420, section 12.4.3.3): returns the bytes of the one that `bytes` begin
     /// with, and the rest, by the decoder.
-    pub fn decode_check_mls_ratchet_tree_prefix(bytes: &[u8]) -> Result<(&[u8], &[u8]), Error> {
+    pub fn decode_check_ratchet_tree_prefix(bytes: &[u8]) -> Result<(&[u8], &[u8]), Error> {
         split(bytes, foreign::mls_ratchet_tree_decode_check_prefix).map_err(|it| it.error)
     }
 }

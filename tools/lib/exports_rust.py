@@ -47,7 +47,7 @@ def linked(crate: str) -> str:
 
 def short(crate: str, export: Export) -> str:
     """What a call is of, as functions of its module are named."""
-    return export.subject.removeprefix(f"{crate.removesuffix('_c').removesuffix('_check')}_")
+    return export.subject.removeprefix(f"{crate.removesuffix('_c').removesuffix('_decode')}_")
 
 
 def wrapped(lines: list[str]) -> str:

@@ -1,6 +1,6 @@
 //! What elements of lists take in memory, as docs/QUESTIONS.md has it.
 use crate::tests::same;
-use mls_group::{HPKECiphertext, ProposalOrRef, UpdatePathNode};
+use mls_group::{EncryptedGroupSecrets, ProposalOrRef};
 use mls_tree::{Certificate, Node};
 use std::mem::size_of;
 
@@ -9,7 +9,7 @@ use std::mem::size_of;
 fn lists_in_memory(rt: HostRuntime) {
     let tree = 4 * size_of::<Option<Node>>(); // RatchetTree: an element has 1 byte or more
     let commit = 4 * size_of::<ProposalOrRef>() / 2; // Commit, and so MLSMessage: 2 or more
-    let path = 4 * (size_of::<UpdatePathNode>() + size_of::<HPKECiphertext>()) / 2; // UpdatePath: 2 or more each
-    let package = 4 * size_of::<Certificate>(); // KeyPackage, with a chain of X.509, and Welcome: 1 or more
-    same(&rt, [tree, commit, path, package], [1_184, 752, 192, 96]);
+    let welcome = 4 * size_of::<EncryptedGroupSecrets>() / 3; // Welcome: 3 or more
+    let package = 4 * size_of::<Certificate>(); // KeyPackage, with a chain of X.509: 1 or more
+    same(&rt, [tree, commit, welcome, package], [1_184, 752, 96, 96]);
 }
