@@ -28,6 +28,7 @@ import re
 import sys
 from collections.abc import Iterator
 
+from lib import words
 from lib.failed import ended
 from lib.libraries import TEXT_OF_CRATE, TOP, Libraries, files_of_clone
 
@@ -229,6 +230,7 @@ def checks() -> dict[str, list[str]]:
 
 
 def main() -> int:
+    words.none()
     found = checks()
     print("".join(f"{line}\n" for lines in found.values() for line in lines), end="")
     failed = sum(map(bool, found.values()))

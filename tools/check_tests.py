@@ -18,6 +18,7 @@ import sys
 import tempfile
 from collections.abc import Iterator
 
+from lib import words
 from lib.failed import ended
 from lib.libraries import CRATES, TOP
 
@@ -192,6 +193,7 @@ def unseen_changes() -> list[str]:
 
 
 def main() -> int:
+    words.none()
     tried = selftest() + wrong_comparisons() + unseen_changes()
     results = {"selftest": tried} | findings(files_of_crates(), LINES.read_text(encoding="utf-8"))
     print("".join(f"{line}\n" for lines in results.values() for line in lines), end="")

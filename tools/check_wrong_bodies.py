@@ -25,7 +25,7 @@ import sys
 import tempfile
 from collections.abc import Iterator
 
-from lib import edits, type_tests
+from lib import edits, type_tests, words
 from lib.failed import ended
 from lib.libraries import CRATES, TOP, Libraries
 
@@ -347,6 +347,7 @@ def selftest() -> list[str]:
 
 
 def main() -> int:
+    words.none()
     failed, exceptions, counts = selftest(), excepted(), collections.Counter()
     passed, unused = int(not failed), set(exceptions)
     checked, bad = checked_functions()

@@ -19,7 +19,7 @@ import subprocess
 import sys
 import tempfile
 
-from lib import cases, generated, rejections
+from lib import cases, generated, rejections, words
 from lib.failed import Failed, ended
 from lib.libraries import CRATES, TOP, run
 
@@ -235,6 +235,7 @@ def generated_runs() -> collections.abc.Iterator[tuple[str, bool, str]]:
 
 
 def main() -> int:
+    words.none()
     for name in ("tlsdump", "tlsgen"):
         if not (CRATES / name / "out" / name).is_file():
             raise Failed(f"crates/{name}/out/{name} is not there: rt ci or rt run builds it")

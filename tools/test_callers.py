@@ -10,6 +10,7 @@ of docs/CALLERS.md is compiled, and python/tests/vectors.py reads rows; archives
 """
 from __future__ import annotations
 
+import argparse
 import json
 import os
 import pathlib
@@ -276,9 +277,19 @@ def build(folder: pathlib.Path) -> None:
         raise Failed(f"{SHARED} of an earlier run is still there")
 
 
-def all_tests() -> dict[str, Callable[[Room], None]]:
+def archives_wanted() -> pathlib.Path | None:
+    """The folder of the archives that the script is to test, or none, if it is to build them."""
+    parser = argparse.ArgumentParser(allow_abbrev=False)
+    parser.add_argument("archives", nargs="?", type=pathlib.Path)
+    folder = parser.parse_args().archives
+    if folder and not any(folder.glob("libtls_codec_*.a")):
+        parser.error(f"{folder} has no libtls_codec_*.a")
+    return folder
+
+
+def all_tests(are_given: bool) -> dict[str, Callable[[Room], None]]:
     """The tests by their names, without those of tools that aren't there. Archives that are built here get their mark first."""
-    tests: dict[str, Callable[[Room], None]] = {} if sys.argv[1:] else {MARK: lambda room: archives.put_mark(room.archives)}
+    tests: dict[str, Callable[[Room], None]] = {} if are_given else {MARK: lambda room: archives.put_mark(room.archives)}
     tests |= {exported.archive_of(it): lambda room, it=it: archive_has_its_exports(room, it) for it in ALL}
     tests |= {it.__name__: it for it in TESTS}
     for it, command in ((cmake, "cmake"), (cmake_of_one, "cmake"), (pkg_config, "pkg-config"), (valgrind, "valgrind")):
@@ -291,11 +302,12 @@ def all_tests() -> dict[str, Callable[[Room], None]]:
 
 def main() -> int:
     failed = 0
+    given = archives_wanted()
     with tempfile.TemporaryDirectory(prefix="callers-") as folder:
-        room = Room(pathlib.Path(folder), pathlib.Path(sys.argv[1] if sys.argv[1:] else f"{folder}/archives"))
-        if not sys.argv[1:]:
+        room = Room(pathlib.Path(folder), given or pathlib.Path(folder, "archives"))
+        if not given:
             build(room.archives)
-        tests = all_tests()
+        tests = all_tests(bool(given))
         for name, test in tests.items():
             try:
                 test(room)

@@ -24,7 +24,7 @@ import subprocess
 import sys
 import tempfile
 
-from lib import cases, generated, verdicts
+from lib import cases, generated, verdicts, words
 from lib.failed import Failed, ended
 from lib.libraries import CRATES, DATA, TEXT_OF_CRATE, TOP, Libraries
 
@@ -152,6 +152,7 @@ def prepared(crate: str, faults: list[Fault], room: pathlib.Path) -> list[str]:
 
 
 def main() -> int:
+    words.none()
     libraries = Libraries()
     passed = failed = 0
     for folder in sorted(CRATES.glob("*_laws/faults")):

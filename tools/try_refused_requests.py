@@ -11,7 +11,7 @@ import re
 import sys
 import tempfile
 
-from lib import cases
+from lib import cases, words
 from lib.failed import Failed, ended
 from lib.libraries import CRATES
 
@@ -37,6 +37,7 @@ def run(last: int, lines: dict[int, str]) -> cases.Tried:
 
 
 def main() -> int:
+    words.none()
     last = number(r"^const LAST: u64 = (\d+);$", "src/main.rt")
     count = number(r"\A(\d+) requests, none refused\n\Z", "stdout")
     lines = {refused: f"{count} requests, {refused} refused\n" for refused in range(1, count + 1)}

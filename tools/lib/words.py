@@ -5,6 +5,11 @@ import argparse
 from collections.abc import Callable
 
 
+def none() -> None:
+    """The script takes no words."""
+    argparse.ArgumentParser(allow_abbrev=False).parse_args()
+
+
 def is_to_write() -> bool:
     """Whether the script is to write what it compares."""
     parser = argparse.ArgumentParser(allow_abbrev=False)
